@@ -1,6 +1,6 @@
+use Prim.Native.Nat.{ℕ}
 use mathlib.Core.Path.{_≡_, refl}
 use borrow.Author.Needs.{needs}
-use Prim.Native.Nat.{ℕ}
 use Rattle.logic.specs.Term.{payload-of}
 use Rattle.logic.specs.Reading.{shape}
 use Rattle.logic.specs.Kind.{kindOf}
