@@ -1,8 +1,6 @@
 use Prim.Native.Nat.{ℕ, _+_, _-_, _≤_, _<_}
-use mathlib.Core.List.{List}
 use mathlib.Core.Path.{_≡_, sym, subst, _∙_}
 use native.Mathlib.Omega.{arith}
-use lib.Seq.{set-getD}
 use lib.ListN.{length}
 use lib.IntN.{natAbs}
 use mir.Facts.{toZ-ofZ}
@@ -14,7 +12,7 @@ use borrow.Fn.PlainCycle.{Measures, is, falls, and}
 use Rattle.logic.proofs.Shapes.{headKind}
 use Rattle.logic.specs.Term.{Term}
 use Rattle.logic.specs.Limits.{payloads}
-use Rattle.words.proofs.Shifts.{atom-shifted, var-shifted, sign-shifted, second-within, node-within}
+use Rattle.words.proofs.Shifts.{var-shifted, kept-shifted, second-within, node-within}
 use Rattle.words.proofs.Places.{at-kind, at-end, size-pos, Halves, halves}
 use Rattle.words.proofs.Lists.{written-same}
 use Rattle.words.specs.Shift.{Shifted}
@@ -68,19 +66,19 @@ kind-known : (t : ℕ) (c : lts.After-kind (calls t) (given t) shift-within.Post
 kind-known t c u h = c .kind .ensures ∙ at-kind h
 
 -- the children of the node that stands there
-node : (t : ℕ) (c : lts.Else3 (calls t) (given t) shift-within.Post) → Halves (c .before .before .before .before .before .before .args .words .now) (c .before .before .before .before .before .before .args .at) (c .before .before .before .kind .result) (c .before .before .before .before .before .before .pre .1 .term)
+node : (t : ℕ) (c : lts.Else2 (calls t) (given t) shift-within.Post) → Halves (c .before .before .before .before .before .args .words .now) (c .before .before .before .before .before .args .at) (c .before .before .kind .result) (c .before .before .before .before .before .pre .1 .term)
 node t c =
-    let s = c .before .before .before .before .before .before in
+    let s = c .before .before .before .before .before in
     let p = s .pre .1 in
-    halves (s .args .words .now) (s .args .at) (c .before .before .before .kind .result) (p .term) (p .here) (kind-known t (c .before .before .before) (p .term) (p .here)) (c .if3 .left) (c .before .before .if1 .left) (c .before .if2 .left)
+    halves (s .args .words .now) (s .args .at) (c .before .before .kind .result) (p .term) (p .here) (kind-known t (c .before .before) (p .term) (p .here)) (λ e. omega arith) (λ e. omega arith) (λ e. omega arith)
 
 -- what the first child's shift wrote, and that the second child still stands behind it
-first-shifted : (t : ℕ) (c : lts.After-shift-within (calls t) (given t) shift-within.Post) → Shifted (node t (c .before .before) .first) (c .before .before .before .before .before .before .before .before .args .c) (toZ w32 (ofZ w32 (c .before .before .before .before .before .before .before .before .args .amount))) (c .before .before .before .before .before .before .before .before .args .words .now) (c .before .before .before .before .before .before .before .before .args .at + 1) (c .shift-within .last .0) (c .shift-within .result)
+first-shifted : (t : ℕ) (c : lts.After-shift-within (calls t) (given t) shift-within.Post) → Shifted (node t (c .before .before) .first) (c .before .before .before .before .before .before .before .args .c) (toZ w32 (ofZ w32 (c .before .before .before .before .before .before .before .args .amount))) (c .before .before .before .before .before .before .before .args .words .now) (c .before .before .before .before .before .before .before .args .at + 1) (c .shift-within .last .0) (c .shift-within .result)
 first-shifted t c = let n = node t (c .before .before) in c .shift-within .ensures (n .first) (n .left)
 
-second : (t : ℕ) (c : lts.After-shift-within (calls t) (given t) shift-within.Post) → At (c .shift-within .last .0) (c .before .before .before .before .before .before .before .before .args .at + 1 + c .shift-within .result) (node t (c .before .before) .second)
+second : (t : ℕ) (c : lts.After-shift-within (calls t) (given t) shift-within.Post) → At (c .shift-within .last .0) (c .before .before .before .before .before .before .before .args .at + 1 + c .shift-within .result) (node t (c .before .before) .second)
 second t c =
-    let s = c .before .before .before .before .before .before .before .before in
+    let s = c .before .before .before .before .before .before .before in
     let n = node t (c .before .before) in
     let f = first-shifted t c in
     second-within (s .args .words .now) _ (s .args .at) (s .args .c) (c .shift-within .result) _ (n .first) (n .second) (within t s) f (subst (λ (i : ℕ). At (s .args .words .now) (s .args .at + 1 + i) (n .second)) (sym (f .count)) (n .right))
@@ -133,73 +131,63 @@ returns-2 t c =
     let p = s .pre .1 in
     let e = c .skip .ensures (p .term) (p .here) in
     let r = at-end (p .here) in
-    λ u h. sign-shifted (s .args .words .now) (s .args .at) (s .args .c) (s .args .amount) (s .args .words .now) (s .args .words .now) (s .args .at) (c .before .before .before .before .kind .result) (c .skip .result) (c .before .before .if2 .taken) (c .skip .ensures) (sym (written-same (s .args .words .now) (s .args .at) (c .skip .result - s .args .at) (omega arith))) u h (kind-known t (c .before .before .before .before) u h)
-
-returns-3 : (t : ℕ) → lts.Need-returns-3 (calls t) (given t) shift-within.Post
-returns-3 t c =
-    let s = c .before .before .before .before .before .before in
-    let r = within t s in
-    λ u h. subst (λ (l : List ℕ). Shifted u (s .args .c) (s .args .amount) (s .args .words .now) (s .args .at) l 1) (set-getD (s .args .words .now) (s .args .at) 0)
-    (atom-shifted (s .args .words .now) (s .args .at) (s .args .c) (s .args .amount) (s .args .words .now) (s .args .at) (c .before .before .before .kind .result) (c .if3 .taken) (omega arith) u h (kind-known t (c .before .before .before) u h))
+    λ u h. kept-shifted (s .args .words .now) (s .args .at) (s .args .c) (s .args .amount) (s .args .words .now) (s .args .words .now) (s .args .at) (c .before .before .before .before .kind .result) (c .skip .result) (c .before .before .before .if1 .left) (omega arith) (c .skip .ensures) (sym (written-same (s .args .words .now) (s .args .at) (c .skip .result - s .args .at) (omega arith))) u h (kind-known t (c .before .before .before .before) u h)
 
 add-shift-within : (t : ℕ) → lts.Need-add-shift-within (calls t) (given t) shift-within.Post
-add-shift-within t c = let r = within t (c .before .before .before .before .before .before .before) in omega (arith, c .before .before .before .before .before .before .before .good)
+add-shift-within t c = let r = within t (c .before .before .before .before .before .before) in omega (arith, c .before .before .before .before .before .before .good)
 
 shift-within-requires : (t : ℕ) → lts.Need-shift-within-requires (calls t) (given t) shift-within.Post
 shift-within-requires t c κs =
-    let s = c .before .before .before .before .before .before .before in
+    let s = c .before .before .before .before .before .before in
     let r = at-end (s .pre .1 .here) in
     let n = node t (c .before) in
     let a = size-pos (n .first) in
-    (omega arith, record { term = n .first; here = n .left; fits = omega arith; deep = omega arith; near = near t s })
+    (omega arith, record { term = n .first; here = n .left; fits = omega arith; deep = omega arith; near = omega (arith, near t s) })
 
 add-shift-within-2 : (t : ℕ) → lts.Need-add-shift-within-2 (calls t) (given t) shift-within.Post
-add-shift-within-2 t c = let r = within t (c .before .before .before .before .before .before .before .before .before .before .before) in omega (arith, c .before .before .before .before .before .before .before .before .before .before .before .good)
+add-shift-within-2 t c = let r = within t (c .before .before .before .before .before .before .before .before .before .before) in omega (arith, c .before .before .before .before .before .before .before .before .before .before .good)
 
 add-shift-within-3 : (t : ℕ) → lts.Need-add-shift-within-3 (calls t) (given t) shift-within.Post
 add-shift-within-3 t c =
-    let r = at-end (c .before .before .before .before .before .before .before .before .before .before .before .pre .1 .here) in
+    let r = at-end (c .before .before .before .before .before .before .before .before .before .before .pre .1 .here) in
     let n = node t (c .before .before .before .before .before) in
     let e = first-shifted t (c .before .before .before) .count in
-    omega (arith, c .before .before .before .before .before .before .before .before .before .before .before .good)
-
-sub-shift-within : (t : ℕ) → lts.Need-sub-shift-within (calls t) (given t) shift-within.Post
-sub-shift-within t c = let n = node t (c .before .before .before .before .before) in omega arith
+    omega (arith, c .before .before .before .before .before .before .before .before .before .before .good)
 
 add-shift-within-4 : (t : ℕ) → lts.Need-add-shift-within-4 (calls t) (given t) shift-within.Post
 add-shift-within-4 t c = let n = node t (c .before .before .before .before .before) in omega arith
 
 shift-within-requires-2 : (t : ℕ) → lts.Need-shift-within-requires-2 (calls t) (given t) shift-within.Post
 shift-within-requires-2 t c κs =
-    let s = c .before .before .before .before .before .before .before .before .before .before .before in
+    let s = c .before .before .before .before .before .before .before .before .before .before in
     let r = at-end (s .pre .1 .here) in
     let n = node t (c .before .before .before .before .before) in
     let k = c .before .before .before .shift-within .kept .0 in
     let e = first-shifted t (c .before .before .before) .count in
-    (omega arith, record { term = n .second; here = second t (c .before .before .before); fits = omega arith; deep = omega arith; near = near t s })
+    (omega arith, record { term = n .second; here = second t (c .before .before .before); fits = omega arith; deep = omega arith; near = omega (arith, near t s) })
 
 add-result : (t : ℕ) → lts.Need-add-result (calls t) (given t) shift-within.Post
 add-result t c =
-    let r = at-end (c .before .before .before .before .before .before .before .before .before .before .before .before .before .before .pre .1 .here) in
+    let r = at-end (c .before .before .before .before .before .before .before .before .before .before .before .before .before .pre .1 .here) in
     let n = node t (c .before .before .before .before .before .before .before .before) in
     let e = first-shifted t (c .before .before .before .before .before .before) .count in
-    omega (arith, c .before .before .before .before .before .before .before .before .before .before .before .before .before .before .good)
+    omega (arith, c .before .before .before .before .before .before .before .before .before .before .before .before .before .good)
 
 add-result-2 : (t : ℕ) → lts.Need-add-result-2 (calls t) (given t) shift-within.Post
 add-result-2 t c =
-    let r = at-end (c .before .before .before .before .before .before .before .before .before .before .before .before .before .before .pre .1 .here) in
+    let r = at-end (c .before .before .before .before .before .before .before .before .before .before .before .before .before .pre .1 .here) in
     let n = node t (c .before .before .before .before .before .before .before .before) in
     let e = first-shifted t (c .before .before .before .before .before .before) .count in
     let f = c .before .before .shift-within2 .ensures (n .second) (second t (c .before .before .before .before .before .before)) .count in
-    omega (arith, c .before .before .before .before .before .before .before .before .before .before .before .before .before .before .good)
+    omega (arith, c .before .before .before .before .before .before .before .before .before .before .before .before .before .good)
 
 same-length-3 : (t : ℕ) → lts.Need-same-length-3 (calls t) (given t) shift-within.Post
 same-length-3 t c = search needs
 
-returns-4 : (t : ℕ) → lts.Need-returns-4 (calls t) (given t) shift-within.Post
-returns-4 t c =
-    let s = c .before .before .before .before .before .before .before .before .before .before .before .before .before .before in
-    λ u h. node-within (s .args .words .now) _ _ (s .args .at) (s .args .c) (s .args .amount) _ (c .before .before .before .before .before .before .before .before .before .before .before .kind .result) (c .before .before .before .before .before .before .shift-within .result) (c .before .before .shift-within2 .result) (amount t s) (c .before .before .before .before .before .before .before .before .if3 .left) (c .before .before .before .before .before .before .before .before .before .before .if1 .left) (c .before .before .before .before .before .before .before .before .before .if2 .left) (within t s) (c .before .before .before .before .before .before .shift-within .ensures) (c .before .before .shift-within2 .ensures) u h (kind-known t (c .before .before .before .before .before .before .before .before .before .before .before) u h)
+returns-3 : (t : ℕ) → lts.Need-returns-3 (calls t) (given t) shift-within.Post
+returns-3 t c =
+    let s = c .before .before .before .before .before .before .before .before .before .before .before .before .before in
+    λ u h. node-within (s .args .words .now) _ _ (s .args .at) (s .args .c) (s .args .amount) _ (c .before .before .before .before .before .before .before .before .before .before .kind .result) (c .before .before .before .before .before .before .shift-within .result) (c .before .before .shift-within2 .result) (amount t s) (λ e. omega arith) (λ e. omega arith) (λ e. omega arith) (within t s) (c .before .before .before .before .before .before .shift-within .ensures) (c .before .before .shift-within2 .ensures) u h (kind-known t (c .before .before .before .before .before .before .before .before .before .before) u h)
 
 pub +shift-within-spec : {M : Type 1} → statement M
 +shift-within-spec = close μ-shift-within λ t. lts.spec (calls t)
@@ -219,15 +207,13 @@ pub +shift-within-spec : {M : Type 1} → statement M
     (sub-result t)
     (same-length-2 t)
     (returns-2 t)
-    (returns-3 t)
     (add-shift-within t)
     (shift-within-requires t)
     (add-shift-within-2 t)
     (add-shift-within-3 t)
-    (sub-shift-within t)
     (add-shift-within-4 t)
     (shift-within-requires-2 t)
     (add-result t)
     (add-result-2 t)
     (same-length-3 t)
-    (returns-4 t)
+    (returns-3 t)
