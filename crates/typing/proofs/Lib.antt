@@ -1,0 +1,1 @@
+-- The check in a lent workspace is right.
