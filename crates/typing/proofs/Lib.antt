@@ -1,1 +1,2 @@
 -- The check in a lent workspace is right.
+pub mod Uniform

@@ -6,3 +6,4 @@ pub mod Variable
 pub mod Atoms
 pub mod Results
 pub mod Enter
+pub mod Forms

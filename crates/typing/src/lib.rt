@@ -1,7 +1,8 @@
 // The check of a term in a lent workspace.
-pub mod apply;
+pub mod atom;
 pub mod derivation;
+pub mod derive;
 pub mod enter;
-pub mod front;
+pub mod formed;
 pub mod scope;
 pub mod sign;

