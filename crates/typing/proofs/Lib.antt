@@ -1,2 +1,3 @@
 -- The check in a lent workspace is right.
+pub mod Tails
 pub mod Uniform
