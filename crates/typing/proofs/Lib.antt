@@ -1,3 +1,4 @@
 -- The check in a lent workspace is right.
 pub mod Tails
 pub mod Uniform
+pub mod Derives

@@ -16,19 +16,19 @@ abbrev pub rule : List Term → List Term → ℕ → Op → (a b A : Term) → 
 rule Σ Γ at o a b A = ready o at a A >> (infer Σ (within o a A Γ) (at + 1 + size a) b >>= λ B. formed o at a b A B)
 
 -- what goes on with the parts of a term goes on with its children
-with-parts : (o : Op) (t : Term) (at : ℕ) (k : Term → Term → Result Term) → (known condition-fails at (parts o t) >>= λ p. k (p .left) (p .right)) ≡ ((known condition-fails at (parts o t) >> ok (tt {0})) >> k (first t) (second t))
+abbrev then-parts : ℕ → (Term → Term → Result Term) → Option Parts → Result Term
+then-parts at k o = known condition-fails at o >>= λ p. k (p .left) (p .right)
+
+abbrev then-children : ℕ → Result Term → Option Parts → Result Term
+then-children at r o = (known condition-fails at o >> ok (tt {0})) >> r
+
+with-parts : (o : Op) (t : Term) (at : ℕ) (k : Term → Term → Result Term) → then-parts at k (parts o t) ≡ then-children at (k (first t) (second t)) (parts o t)
 with-parts o (atom a) at k = refl
 with-parts o (var n) at k = refl
 with-parts o (sign n q) at k = refl
 with-parts o (node h a b) at k = go (Op-discrete o h)
   where
-    abbrev then-parts : Option Parts → Result Term
-    then-parts o = known condition-fails at o >>= λ p. k (p .left) (p .right)
-
-    abbrev first-second : Option Parts → Result Term
-    first-second o = (known condition-fails at o >> ok (tt {0})) >> k a b
-
-    go : (d : Dec (o ≡ h)) → then-parts (elim d as (λ u. Option Parts) [ yes _ ↦ some (record { left = a; right = b }) | no _ ↦ none ]) ≡ first-second (elim d as (λ u. Option Parts) [ yes _ ↦ some (record { left = a; right = b }) | no _ ↦ none ])
+    go : (d : Dec (o ≡ h)) → then-parts at k (elim d as (λ u. Option Parts) [ yes _ ↦ some (record { left = a; right = b }) | no _ ↦ none ]) ≡ then-children at (k a b) (elim d as (λ u. Option Parts) [ yes _ ↦ some (record { left = a; right = b }) | no _ ↦ none ])
     go (yes e) = refl
     go (no e) = refl
 

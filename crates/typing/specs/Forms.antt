@@ -6,7 +6,7 @@ use lib.ListN.{length}
 use Rattle.logic.specs.Limits.{most-words, most-type-words}
 use Rattle.logic.specs.Term.{Op, saysO, piO, lamO, appO, retO, bindO, Term, node, Says, Pi, size}
 use Rattle.logic.specs.Move.{fill}
-use Rattle.logic.specs.Reading.{Plain}
+use Rattle.logic.specs.Reading.{PlainType}
 use Rattle.words.specs.Place.{At}
 use Rattle.words.specs.Typed.{TypeAt}
 use Rattle.typing.specs.Rule.{first, second}
@@ -18,7 +18,7 @@ abbrev pub Types : Op → List ℕ → (used n m : ℕ) → (b A B : Term) → T
 Types saysO ws used n m b A B = TypeAt ws 0 B
 Types piO ws used n m b A B = TypeAt ws 0 B
 Types lamO ws used n m b A B = TypeAt ws 0 B
-Types appO ws used n m b A B = (A ≡ Pi (first A) (second A)) × At ws 0 A × (n ≡ size A) × TypeAt ws n B × (size (fill (second A) b) ≤ most-type-words → Plain (fill (second A) b))
+Types appO ws used n m b A B = (A ≡ Pi (first A) (second A)) × At ws 0 A × (n ≡ size A) × TypeAt ws n B × (B ≡ first A → size (fill (second A) b) ≤ most-type-words → PlainType (fill (second A) b))
 Types retO ws used n m b A B = TypeAt ws 0 B
 Types bindO ws used n m b A B = (A ≡ Says (first A) (second A)) × Binds ws used m (first A) (second A) B
 

@@ -7,7 +7,7 @@ use lib.ListN.{length, drop, getElem?}
 use Rattle.logic.specs.Limits.{payloads, most-words, most-nesting, most-type-words}
 use Rattle.logic.specs.Term.{Term, size}
 use Rattle.logic.specs.Move.{raise}
-use Rattle.logic.specs.Reading.{Plain}
+use Rattle.logic.specs.Reading.{PlainType}
 use Rattle.typing.specs.Scope.{scope-words, Binders}
 use Rattle.typing.specs.Derive.{front-words}
 
@@ -36,4 +36,4 @@ pub record InScope (proof ws : List ℕ) (floor used n : ℕ) : Type 0 where
 
 -- a binder's type is a plain term where the variable stands
 abbrev pub Raises : List Term → ℕ → Type 0
-Raises Γ n = (A : Term) → getElem? Γ n ≡ some A → size A ≤ most-type-words → Plain (raise (suc n) A)
+Raises Γ n = (A : Term) → getElem? Γ n ≡ some A → size A ≤ most-type-words → PlainType (raise (suc n) A)
