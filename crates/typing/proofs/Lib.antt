@@ -2,3 +2,5 @@
 pub mod Tails
 pub mod Uniform
 pub mod Derives
+pub mod Checks
+pub mod Signatures

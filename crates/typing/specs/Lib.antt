@@ -7,3 +7,5 @@ pub mod Atoms
 pub mod Results
 pub mod Enter
 pub mod Forms
+pub mod Signature
+pub mod Check

@@ -1,8 +1,10 @@
 // The check of a term in a lent workspace.
 pub mod atom;
+pub mod check;
 pub mod derivation;
 pub mod derive;
 pub mod enter;
 pub mod formed;
 pub mod scope;
 pub mod sign;
+pub mod signature;
