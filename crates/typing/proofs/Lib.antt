@@ -2,5 +2,6 @@
 pub mod Tails
 pub mod Uniform
 pub mod Derives
+pub mod Fronts
 pub mod Checks
 pub mod Signatures

@@ -1,16 +1,18 @@
 -- What the code of tests 6 to 12, of the signature list and of its permits and receipts is asked and what it ensures.
-use Prim.Native.Nat.{ℕ, _≤_}
+use Prim.Native.Nat.{ℕ, _≤_, _<_}
+use mathlib.Core.Bool.{Bool, true, false, _&&_}
 use mathlib.Core.Path.{_≡_}
-use mathlib.Core.List.{List, []}
+use mathlib.Core.List.{List, [], _∷_}
+use lib.Dec.{leb}
 use lib.ListN.{length, take}
-use Rattle.logic.specs.Limits.{least-workspace, most-words, most-nesting, most-constants}
+use Rattle.logic.specs.Limits.{least-workspace, most-words, most-nesting, most-constants, most-constant-words}
 use Rattle.logic.specs.Result.{Result, ok, refused, _>>=_}
 use Rattle.logic.specs.Term.{Term}
 use Rattle.logic.specs.Scope.{Signature}
 use Rattle.logic.specs.Infer.{infer}
 use Rattle.logic.specs.Check.{term-of}
 use Rattle.typing.specs.Scope.{Declared}
-use Rattle.typing.specs.Signature.{signature}
+use Rattle.typing.specs.Signature.{signature, constant}
 use Rattle.typing.specs.Derive.{answer-of, Front}
 use Rattle.typing.specs.declared.derivation.Derivation.{Derivation}
 use Rattle.typing.specs.declared.derivation.Verdict.{Verdict}
@@ -54,3 +56,20 @@ Read-as (refused m p) sig table r = r ≡ Bad p
 pub record Readable (table ws : List ℕ) : Type 0 where
   pub entries : length table ≡ most-constants
   pub workspace : least-workspace ≤ length ws
+
+-- whether tests passed
+abbrev pub passed : {X : Type 0} → Result X → Bool
+passed (ok x) = true
+passed (refused m p) = false
+
+-- behind the constants Σ the list goes on with one more
+unfoldable pub constant-at : List Term → List ℕ → Bool
+constant-at Σ [] = false
+constant-at Σ (n ∷ ws) = leb 1 n && leb n most-constant-words && leb n (length ws) && passed (constant Σ (take n ws))
+
+-- a word stands at a place of the list
+pub record Listable (sig table ws : List ℕ) (at : ℕ) : Type 0 where
+  pub Σ : List Term
+  pub constants : Constants-of sig table Σ
+  pub workspace : least-workspace ≤ length ws
+  pub inside : at < length sig

@@ -5,6 +5,7 @@ pub mod derivation;
 pub mod derive;
 pub mod enter;
 pub mod formed;
+pub mod front;
 pub mod scope;
 pub mod sign;
 pub mod signature;
