@@ -31,7 +31,7 @@ use Rattle.logic.proofs.Searches.{depth-pos}
 use Rattle.words.specs.Place.{At}
 use Rattle.words.specs.Typed.{TypeAt}
 use Rattle.words.proofs.Places.{at-head, at-sign, at-left, at-right, payload}
-use Rattle.words.proofs.Shapes.{headKind, op-low}
+use Rattle.logic.proofs.Shapes.{headKind, op-low}
 use Rattle.words.proofs.Shifts.{size-shift}
 use Rattle.typing.specs.Rule.{atom-type, variable-type, sign-type, first, second, ready, within, formed}
 use Rattle.typing.specs.Scope.{tail, scope-words, entry-head, Binders, no-binder as no-entries, in-proof, in-workspace, entry, Declared}

@@ -5,3 +5,4 @@ pub mod Derives
 pub mod Fronts
 pub mod Checks
 pub mod Signatures
+pub mod Listings

@@ -39,7 +39,7 @@ at-constant-ok : {X : Type 0} (at : ℕ) (r : Result X) {x : X} → at-constant 
 at-constant-ok at (ok x) e = e
 at-constant-ok at (refused m p) e = absurd (not-ok e)
 
-constant-right : (Σ : List Term) → Signature Σ → (ws : List ℕ) (A : Term) → (constant Σ ws ≡ ok A) ↔ Passes Σ ws A KindP
+pub constant-right : (Σ : List Term) → Signature Σ → (ws : List ℕ) (A : Term) → (constant Σ ws ≡ ok A) ↔ Passes Σ ws A KindP
 constant-right Σ sig ws A = (from, λ h. bind-is _ (check-term-right Σ sig ws A KindP .1 h) (pass _ _ (same-yes refl) refl))
   where
     from : constant Σ ws ≡ ok A → Passes Σ ws A KindP

@@ -2,7 +2,7 @@
 use crate::check::check_term;
 use crate::derivation::Derivation;
 use crate::front::front_is;
-use words::kind::PAYLOADS;
+use logic::word::PAYLOADS;
 ghost use mathlib.Core.Path.{_≡_};
 ghost use mathlib.Core.List.{List};
 ghost use lib.ListN.{drop};

@@ -14,7 +14,7 @@ use Rattle.logic.specs.Limits.{most-type-words}
 use Rattle.logic.proofs.Searches.{depth-pos}
 use Rattle.words.specs.Place.{At}
 use Rattle.words.proofs.Places.{at-kind, at-end, size-pos}
-use Rattle.words.proofs.Shapes.{headKind}
+use Rattle.logic.proofs.Shapes.{headKind}
 use Rattle.typing.specs.Rule.{within}
 use Rattle.typing.specs.Derive.{Ready, Derived, level-words}
 use Rattle.typing.specs.declared.derivation.Derivation.{Derivation}
@@ -29,7 +29,7 @@ use Rattle.typing.proofs.enter.enter.Reads as enter-reads
 use Rattle.typing.proofs.formed.formed.Reads as formed-reads
 use Rattle.typing.proofs.scope.variable.Reads as variable-reads
 use Rattle.typing.proofs.sign.sign.Reads as sign-reads
-use Rattle.words.proofs.kind.kind.Reads as kind-reads
+use Rattle.logic.proofs.word.kind.Reads as kind-reads
 use Rattle.typing.proofs.derive.+derive.{statement}
 use Rattle.typing.proofs.derive.+derive.Tie.{close}
 
