@@ -37,8 +37,7 @@ use Rattle.typing.specs.Rule.{atom-type, variable-type, sign-type, first
 use Rattle.typing.specs.Scope.{tail, scope-words, entry-head, Binders, no-binder as no-entries, in-proof, in-workspace, entry, Declared}
 use Rattle.typing.specs.Derive.{answer-of, Front, Formed, Derived, Ready, front-words, level-words}
 use Rattle.typing.specs.Variable.{Raises}
-use Rattle.typing.specs.Results.{Binds, Signs}
-use Rattle.typing.specs.Forms.{Types, Forms, Formable}
+use Rattle.typing.specs.Results.{Signs, First, Forms, Formable}
 use Rattle.typing.specs.Enter.{Enters, Entering, Entering-by, keep-of}
 use Rattle.typing.specs.declared.derivation.Derivation.{Derivation}
 use Rattle.typing.specs.declared.derivation.Derivation.the-variants.{Typed, Refused}
@@ -98,14 +97,6 @@ type-before n ws part A e h = record {
   rest = part;
   words = whole-is n ws part ∙ ap (λ (x : List ℕ). x ++ part) (ap₂ (λ (i : ℕ) (x : List ℕ). take i x) e (h .words) ∙ take-at (encode A) (h .rest) (size A) (encode-size A));
 }
-
-pi-at : (ws : List ℕ) (A : Term) → A ≡ Pi (first A) (second A) → TypeAt ws 0 A → At ws 0 A
-pi-at ws A e h = record { plain = go (h .plain); rest = h .rest; words = h .words }
-  where
-    go : PlainType A → Plain A
-    go (inl p) = p
-    go (inr (inl q)) = absurd (clash (cc))
-    go (inr (inr q)) = absurd (clash (cc))
 
 -- ---- the names in scope
 
@@ -443,50 +434,38 @@ module _ {sig table proof ws : List ℕ} {floor used at left : ℕ} {Σ Γ : Lis
             let s : size A ≡ suc (size (first A) + size (second A)) = ap size e in
             plain-typed (weaken-one Σ (R .signature) (second A) (h .0)) (omega (arith, size-shift 0 (pos 1) (first A), B .small, R .few)) (named-shift 0 (pos 1) (first A) (in-range-named (first A) (plain-in-range (first A) (p .0))))
 
-        types-here : Types o mid3 kept n m b A C
-        unfolding formed size
-        types-here = go o (I .keep-is) (I .passed) (kept-back ∙ I .entered) node-plain
+        first-here : First o mid3 b A C
+        unfolding formed
+        first-here = go o (I .keep-is) (I .passed) node-plain
           where
-            behind : TypeAt mid3 keep C
-            behind = type-behind keep mid2 part C (omega (arith, fits-level)) (second-type .front)
-
-            front : keep ≡ 0 → TypeAt mid3 0 C
-            front e = subst (λ (i : ℕ). TypeAt mid3 i C) e behind
-
-            go : (o : Op) → keep ≡ keep-of o n → ready o at a A ≡ ok tt → tail kept mid3 ≡ entry o at a A ++ tail used mid → ((X : Term) → formed o at a b A C ≡ ok X → PlainType X) → Types o mid3 kept n m b A C
-            go saysO k e t f = front k
-            go piO k e t f = front k
-            go lamO k e t f = front k
-            go appO k e t f =
-                let x = ready-pi at a A e in
-                let w = B .enters .type-words in (
-                  x,
-                  pi-at mid3 A x (type-before keep mid2 part A (k ∙ w) (I .front)),
-                  w,
-                  subst (λ (i : ℕ). TypeAt mid3 i C) k behind,
-                  λ y z. f (fill (second A) b) (pass _ at (same-yes y) (measured-small at z)),
-                )
-            go retO k e t f = front k
-            go bindO k e t f =
-                let x = ready-says at a A e in
-                let z : size A ≡ suc (size (first A) + size (second A)) = ap size x in
-                let y : entry-head + size A ≡ entry-head + (1 + size (first A) + size (second A)) = omega arith in (
-                  x,
-                  record {
-                    rest = tail used mid;
-                    kept = t ∙ ap (λ (i : ℕ). i ∷ 0 ∷ size (second A) ∷ ((opWord saysO ∷ (encode (raise 1 (first A)) ++ encode (second A))) ++ tail used mid)) y;
-                    principal = principal x;
-                    type = front k;
-                    type-words = second-type .words;
-                  },
-                )
+            go : (o : Op) → keep ≡ keep-of o n → ready o at a A ≡ ok tt → ((X : Term) → formed o at a b A C ≡ ok X → PlainType X) → First o mid3 b A C
+            go saysO k e f = tt
+            go piO k e f = tt
+            go lamO k e f = tt
+            go appO k e f = (
+              ready-pi at a A e,
+              type-before keep mid2 part A (k ∙ B .enters .type-words) (I .front),
+              λ y z. f (fill (second A) b) (pass _ at (same-yes y) (measured-small at z)),
+            )
+            go retO k e f = tt
+            go bindO k e f = let x = ready-says at a A e in (x, principal x)
 
         ends-here : end ≡ at + size (node o a b)
         unfolding size
         ends-here = omega (arith, second-type .ends, B .enters .next-is)
 
         pub forms-here : Forms proof mid3 kept at next n m end o a b A C
-        forms-here = record { here = R .here; next-is = B .enters .next-is; end-is = ends-here; type-words = second-type .words; types = types-here }
+        forms-here = record {
+          here = R .here;
+          next-is = B .enters .next-is;
+          end-is = ends-here;
+          first-words = B .enters .type-words;
+          first-type = first-here;
+          second-words = second-type .words;
+          second-type = subst (λ (i : ℕ). TypeAt mid3 i C) (I .keep-is) (type-behind keep mid2 part C (omega (arith, fits-level)) (second-type .front));
+          rest = tail used mid;
+          kept = kept-back ∙ I .entered;
+        }
 
         pub formable : length proof ≤ most-words → Formable proof mid3 kept at next n m end
         formable short = record {
@@ -496,10 +475,10 @@ module _ {sig table proof ws : List ℕ} {floor used at left : ℕ} {Σ Γ : Lis
           A = A;
           B = C;
           forms = forms-here;
-          small = omega (arith, B .enters .type-words, B .small);
+          small-first = omega (arith, B .enters .type-words, B .small);
           small-second = omega (arith, second-type .words, second-small);
           short = short;
-          room = omega (arith, level, two-deep, mul-level left two-deep, length-back, B .enters .type-words, B .small);
+          room = omega (arith, fits-level, length-back, same, I .keep-is);
         }
 
         pub node-derived : (mid4 : List ℕ) (s : Derivation) → length mid4 ≡ length mid3 → Formed (formed o at a b A C) end mid3 mid4 s → Derived (infer Σ Γ at (node o a b)) (at + size (node o a b)) used ws mid4 s

@@ -1,5 +1,5 @@
 -- The type at the front of the workspace: what stands there, what is written there, and what a rule answers.
-use Prim.Native.Nat.{ℕ, suc, _+_, _-_, _≤_, _<_}
+use Prim.Native.Nat.{ℕ, _+_, _-_, _≤_, _<_}
 use native.Mathlib.Omega.{arith}
 use mathlib.Core.Path.{_≡_, refl, sym, ap, subst, _∙_}
 use mathlib.Core.Bool.{Bool, true, false, not}
@@ -10,7 +10,7 @@ use lib.Seq.{drop-drop, take-at, drop-at, length-take-le}
 use borrow.Author.Tests.{not-true, eqb-true, eq-eqb, le-leb, lt-leb}
 use Rattle.logic.specs.Limits.{most-type-words}
 use Rattle.logic.specs.Refusals.{condition-fails, type-too-long}
-use Rattle.logic.specs.Result.{Result, ok, refused, _>>_, require}
+use Rattle.logic.specs.Result.{Result, ok, refused, _>>_}
 use Rattle.logic.specs.Term.{Atom, Term, atom, var, sign, node, atomWord, encode, size}
 use Rattle.logic.specs.Reading.{PlainType}
 use Rattle.logic.specs.Infer.{same, condition, measured}
@@ -22,8 +22,7 @@ use Rattle.words.specs.Typed.{TypeAt}
 use Rattle.words.proofs.Lists.{length-head}
 use Rattle.words.proofs.Places.{size-pos, words-head}
 use Rattle.words.proofs.Types.{in-range}
-use Rattle.typing.specs.Derive.{answer-of, Front, front-words, Formed}
-use Rattle.typing.specs.declared.derivation.Derivation.{Derivation}
+use Rattle.typing.specs.Derive.{front-words, Formed}
 use Rattle.typing.specs.declared.derivation.Derivation.the-variants.{Typed, Refused}
 
 -- ---- a type of one word

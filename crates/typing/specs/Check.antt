@@ -12,7 +12,7 @@ use Rattle.logic.specs.Scope.{Signature}
 use Rattle.logic.specs.Infer.{infer}
 use Rattle.logic.specs.Check.{term-of}
 use Rattle.typing.specs.Scope.{Declared}
-use Rattle.typing.specs.Signature.{signature, constant}
+use Rattle.logic.specs.SignatureList.{signature, constant}
 use Rattle.typing.specs.Derive.{answer-of, Front}
 use Rattle.typing.specs.declared.derivation.Derivation.{Derivation}
 use Rattle.typing.specs.declared.derivation.Verdict.{Verdict}

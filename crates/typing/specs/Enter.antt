@@ -1,12 +1,12 @@
 -- What the code between the children of a node is asked and what it ensures.
-use Prim.Native.Nat.{ℕ, _+_, _≤_}
+use Prim.Native.Nat.{ℕ, _+_, _-_, _≤_}
 use mathlib.Core.Path.{_≡_}
 use mathlib.Core.List.{List, _++_}
 use lib.ListN.{length, getD}
 use Rattle.logic.specs.Limits.{most-words, most-type-words}
 use Rattle.logic.specs.Result.{Result, ok, refused}
-use Rattle.logic.specs.Term.{Op, saysO, piO, lamO, appO, retO, bindO, Term, opWord, size}
-use Rattle.words.specs.Place.{At}
+use Rattle.logic.specs.Term.{Op, saysO, piO, lamO, appO, retO, bindO, Term, Says, opWord, size}
+use Rattle.words.specs.Place.{At, written}
 use Rattle.words.specs.Typed.{TypeAt}
 use Rattle.typing.specs.Rule.{ready}
 use Rattle.typing.specs.Scope.{tail, entry}
@@ -29,6 +29,20 @@ pub record Enterable (proof ws : List ℕ) (used at next n : ℕ) : Type 0 where
   pub enters : Enters proof ws at next n o a A
   pub small : n ≤ most-type-words
   pub short : length proof ≤ most-words
+  pub room : used + level-words + front-words ≤ length ws
+
+-- the words xs were written before the `used` words kept at the end, and r are kept now
+pub record Kept (xs : List ℕ) (used : ℕ) (old new : List ℕ) (r : ℕ) : Type 0 where
+  pub count : r ≡ used + length xs
+  pub words : new ≡ written old (length old - (used + length xs)) xs
+
+-- the type of a Bind's proof stands at the front of the workspace
+pub record Keepable (ws : List ℕ) (used n : ℕ) : Type 0 where
+  pub p : Term
+  pub q : Term
+  pub type : TypeAt ws 0 (Says p q)
+  pub type-words : n ≡ size (Says p q)
+  pub small : n ≤ most-type-words
   pub room : used + level-words + front-words ≤ length ws
 
 -- the words at the front that are kept: an App's function's type

@@ -4,8 +4,6 @@ pub mod Scope
 pub mod Derive
 pub mod Variable
 pub mod Atoms
-pub mod Results
 pub mod Enter
-pub mod Forms
-pub mod Signature
+pub mod Results
 pub mod Check

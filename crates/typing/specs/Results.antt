@@ -4,13 +4,15 @@ use mathlib.Core.Path.{_≡_}
 use mathlib.Core.List.{List, _∷_, _++_}
 use lib.ListN.{length}
 use Rattle.logic.specs.Limits.{most-words, most-type-words}
-use Rattle.logic.specs.Term.{Op, saysO, Term, sign, Pi, opWord, encode, size}
+use Rattle.logic.specs.Term.{Op, saysO, piO, lamO, appO, retO, bindO, Term, sign, node, Says, Pi, opWord, encode, size}
 use Rattle.logic.specs.Move.{raise, fill}
-use Rattle.logic.specs.Reading.{Plain}
+use Rattle.logic.specs.Reading.{Plain, PlainType}
 use Rattle.words.specs.Place.{At}
 use Rattle.words.specs.Typed.{TypeAt}
-use Rattle.typing.specs.Scope.{tail, entry-head}
+use Rattle.typing.specs.Rule.{first, second}
+use Rattle.typing.specs.Scope.{tail, entry-head, entry}
 use Rattle.typing.specs.Derive.{front-words}
+use Rattle.typing.specs.Enter.{keep-of}
 
 -- the type of a function and of its argument e stand at the front of the workspace, and e in the proof
 pub record Applies (proof ws : List ℕ) (next n m end : ℕ) (d C e E : Term) : Type 0 where
@@ -20,7 +22,7 @@ pub record Applies (proof ws : List ℕ) (next n m end : ℕ) (d C e E : Term) :
   pub argument-words : m ≡ size E
   pub here : At proof next e
   pub end-is : end ≡ next + size e
-  pub plain : size (fill C e) ≤ most-type-words → Plain (fill C e)
+  pub plain : E ≡ d → size (fill C e) ≤ most-type-words → PlainType (fill C e)
 
 pub record Appliable (proof ws : List ℕ) (next n m end : ℕ) : Type 0 where
   pub d : Term
@@ -79,3 +81,36 @@ pub record Signable (proof ws : List ℕ) (at n end : ℕ) : Type 0 where
   pub signs : Signs proof ws at n end a q s
   pub short : length proof ≤ most-words
   pub room : front-words ≤ length ws
+
+-- what the result needs of the first child's type A: of an App a Pi type at the front of the workspace, of a Bind a Says type
+abbrev pub First : Op → List ℕ → (b A B : Term) → Type 0
+First saysO ws b A B = Unit {0}
+First piO ws b A B = Unit {0}
+First lamO ws b A B = Unit {0}
+First appO ws b A B = (A ≡ Pi (first A) (second A)) × TypeAt ws 0 A × (B ≡ first A → size (fill (second A) b) ≤ most-type-words → PlainType (fill (second A) b))
+First retO ws b A B = Unit {0}
+First bindO ws b A B = (A ≡ Says (first A) (second A)) × Plain (raise 1 (first A))
+
+-- a node stands in the proof, the type B of its second child behind what is kept at the front of the workspace, and the entry of its binder, if any, at the end
+pub record Forms (proof ws : List ℕ) (used at next n m end : ℕ) (o : Op) (a b A B : Term) : Type 0 where
+  pub here : At proof at (node o a b)
+  pub next-is : next ≡ at + 1 + size a
+  pub end-is : end ≡ at + size (node o a b)
+  pub first-words : n ≡ size A
+  pub first-type : First o ws b A B
+  pub second-words : m ≡ size B
+  pub second-type : TypeAt ws (keep-of o n) B
+  pub rest : List ℕ
+  pub kept : tail used ws ≡ entry o at a A ++ rest
+
+pub record Formable (proof ws : List ℕ) (used at next n m end : ℕ) : Type 0 where
+  pub o : Op
+  pub a : Term
+  pub b : Term
+  pub A : Term
+  pub B : Term
+  pub forms : Forms proof ws used at next n m end o a b A B
+  pub small-first : n ≤ most-type-words
+  pub small-second : m ≤ most-type-words
+  pub short : length proof ≤ most-words
+  pub room : used + keep-of o n + front-words ≤ length ws

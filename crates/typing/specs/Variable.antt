@@ -25,12 +25,13 @@ pub record Found (proof ws : List ℕ) (floor used n : ℕ) (Γ : List Term) (r 
   pub most : r ≤ used
   pub binders : Binders proof (scope-words floor r ws) (drop n Γ)
 
--- a variable's number, and the binders in scope
-pub record InScope (proof ws : List ℕ) (floor used n : ℕ) : Type 0 where
+-- a variable's number and place, and the binders in scope
+pub record InScope (proof ws : List ℕ) (floor used n at : ℕ) : Type 0 where
   pub Γ : List Term
   pub binders : Binders proof (scope-words floor used ws) Γ
   pub few : length Γ ≤ most-nesting
   pub number : n < payloads
+  pub place : at < most-words
   pub below : floor ≤ used
   pub room : used + front-words ≤ length ws
 

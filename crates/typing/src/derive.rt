@@ -1,5 +1,6 @@
 // The derivation of a term's type.
 use crate::atom::atom;
+use crate::derivation::CONDITION_FAILS;
 use crate::derivation::Derivation;
 use crate::enter::Entered;
 use crate::enter::enter;
@@ -59,7 +60,7 @@ pub fn derive(
     let entered = enter(proof, ws, used, at, next, n);
     let Entered::Fits { keep, used: kept } = entered else {
         return Derivation::Refused {
-            number: 11,
+            number: CONDITION_FAILS,
             place: at,
         };
     };

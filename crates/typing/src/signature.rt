@@ -7,7 +7,7 @@ ghost use mathlib.Core.Path.{_≡_};
 ghost use mathlib.Core.List.{List};
 ghost use lib.ListN.{drop};
 ghost use Rattle.logic.specs.Term.{Term};
-ghost use Rattle.typing.specs.Signature.{signature};
+ghost use Rattle.logic.specs.SignatureList.{signature};
 ghost use Rattle.typing.specs.Check.{Constants-of, constant-at, Listable, Read-as, Readable};
 
 // How many constants a signature has that is accepted, or the place of the first bad constant's length word.

@@ -113,7 +113,7 @@ kind-requires : (t : ℕ) → lts.Need-kind-requires (calls t) (given t) derive.
 kind-requires t c κs = search needs
 
 atom-requires : (t : ℕ) → lts.Need-atom-requires (calls t) (given t) derive.Post
-atom-requires t c κs = let p = c .before .before .before .before .before .before .before .before .pre .1 in record { Σ = p .Σ; declared = p .ready .declared; room = omega (arith, p .room) }
+atom-requires t c κs = let p = c .before .before .before .before .before .before .before .before .pre .1 in record { Σ = p .Σ; declared = p .ready .declared; room = omega (arith, p .room); place = omega (arith, p .short, place-within t (c .before .before .before .before .before .before .before .before)) }
 
 same-length : (t : ℕ) → lts.Need-same-length (calls t) (given t) derive.Post
 same-length t c = search needs
@@ -126,7 +126,7 @@ returns t c =
 variable-requires : (t : ℕ) → lts.Need-variable-requires (calls t) (given t) derive.Post
 variable-requires t c κs =
     let p = c .before .before .before .before .before .before .before .before .before .pre .1 in
-    record { Γ = p .Γ; binders = p .ready .binders; few = omega (arith, p .ready .few); number = omega arith; below = p .below; room = omega (arith, p .room) }
+    record { Γ = p .Γ; binders = p .ready .binders; few = omega (arith, p .ready .few); number = omega arith; below = p .below; room = omega (arith, p .room); place = omega (arith, p .short, place-within t (c .before .before .before .before .before .before .before .before .before)) }
 
 same-length-2 : (t : ℕ) → lts.Need-same-length-2 (calls t) (given t) derive.Post
 same-length-2 t c = search needs

@@ -1,10 +1,7 @@
-use Rattle.typing.proofs.Fronts.{front-word, front-words-more}
-use native.Mathlib.Omega.{arith}
 use borrow.Author.Needs.{needs}
+use Rattle.typing.proofs.Fronts.{front-word, front-words-more}
 use Rattle.typing.proofs.front.front_is.Statement.{statement}
 use Rattle.typing.proofs.front.front_is.Tie as tie
-use Rattle.typing.proofs.front.front_is.Reads as reads
-use Rattle.typing.proofs.front.front_is.Lts as lts
 
 shared-slice-read-result : tie.Need-shared-slice-read-result
 shared-slice-read-result c = search needs
