@@ -29,11 +29,12 @@ use Rattle.words.specs.declared.nesting.Nesting.the-variants.{Within, Past}
 use Rattle.words.proofs.Places.{is-at, size-is}
 use Rattle.words.proofs.Parses.{whole-term, whole-malformed}
 use Rattle.words.proofs.Nestings.{past-is, within-is}
-use Rattle.typing.specs.Scope.{Binders, no-binder as no-entries}
-use Rattle.typing.specs.Derive.{answer-of, Derived, Ready}
+use Rattle.rules.specs.Scope.{Binders, no-binder as no-entries}
+use Rattle.rules.specs.Form.{answer-of}
+use Rattle.typing.specs.Derive.{Derived, Ready}
 use Rattle.typing.specs.Check.{Constants-of, typed-term, Judged}
-use Rattle.typing.specs.declared.derivation.Derivation.{Derivation}
-use Rattle.typing.specs.declared.derivation.Derivation.the-variants.{Typed, Refused}
+use Rattle.rules.specs.declared.derivation.Derivation.{Derivation}
+use Rattle.rules.specs.declared.derivation.Derivation.the-variants.{Typed, Refused}
 
 judged-refused : (o : Result Term) (end : ℕ) (new : List ℕ) (m p : ℕ) → o ≡ refused m p → Judged o end new (Refused m p)
 judged-refused o end new m p e = subst (λ (x : Result Term). Judged x end new (Refused m p)) (sym e) (record { answer = refl; front = tt })

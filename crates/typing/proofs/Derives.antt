@@ -33,16 +33,17 @@ use Rattle.words.specs.Typed.{TypeAt}
 use Rattle.words.proofs.Places.{at-head, at-sign, at-left, at-right, payload}
 use Rattle.logic.proofs.Shapes.{headKind, op-low}
 use Rattle.words.proofs.Shifts.{size-shift}
-use Rattle.typing.specs.Rule.{atom-type, variable-type, sign-type, first, second, ready, within, formed}
-use Rattle.typing.specs.Scope.{tail, scope-words, entry-head, Binders, no-binder as no-entries, in-proof, in-workspace, entry, Declared}
-use Rattle.typing.specs.Derive.{answer-of, Front, Formed, Derived, Ready, front-words, level-words}
-use Rattle.typing.specs.Variable.{Raises}
-use Rattle.typing.specs.Results.{Signs, First, Forms, Formable}
-use Rattle.typing.specs.Enter.{Enters, Entering, Entering-by, keep-of}
-use Rattle.typing.specs.declared.derivation.Derivation.{Derivation}
-use Rattle.typing.specs.declared.derivation.Derivation.the-variants.{Typed, Refused}
-use Rattle.typing.specs.declared.enter.Entered.{Entered}
-use Rattle.typing.specs.declared.enter.Entered.the-variants.{Fits, Fails}
+use Rattle.rules.specs.Rule.{atom-type, variable-type, sign-type, first, second, ready, within, formed}
+use Rattle.rules.specs.Scope.{tail, scope-words, entry-head, Binders, no-binder as no-entries, in-proof, in-workspace, entry, Declared}
+use Rattle.rules.specs.Form.{answer-of, Front, Formed, front-words, level-words}
+use Rattle.typing.specs.Derive.{Derived, Ready}
+use Rattle.rules.specs.Variable.{Raises}
+use Rattle.rules.specs.Results.{Signs, First, Forms, Formable}
+use Rattle.rules.specs.Enter.{Enters, Entering, Entering-by, keep-of}
+use Rattle.rules.specs.declared.derivation.Derivation.{Derivation}
+use Rattle.rules.specs.declared.derivation.Derivation.the-variants.{Typed, Refused}
+use Rattle.rules.specs.declared.enter.Entered.{Entered}
+use Rattle.rules.specs.declared.enter.Entered.the-variants.{Fits, Fails}
 use Rattle.typing.proofs.Tails.{tail-length, tail-kept, tail-less, rest-of, whole-of, rest-tail, whole-tail, whole-length, whole-is, rest-length}
 use Rattle.typing.proofs.Uniform.{rule, uniform}
 

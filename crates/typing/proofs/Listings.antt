@@ -26,12 +26,12 @@ use Rattle.logic.proofs.Results.{pass, both-true, true-both}
 use Rattle.logic.proofs.Signatures.{entry-last, extend, empty-signature}
 use Rattle.words.specs.Place.{At}
 use Rattle.words.specs.Typed.{TypeAt}
-use Rattle.typing.specs.Scope.{Declared}
+use Rattle.rules.specs.Scope.{Declared}
 use Rattle.logic.specs.SignatureList.{at-constant, constant, constants, signature}
-use Rattle.typing.specs.Derive.{answer-of, Front}
+use Rattle.rules.specs.Form.{answer-of, Front}
 use Rattle.typing.specs.Check.{Constants-of, typed-term, Judged, passed, constant-at, Read-as}
-use Rattle.typing.specs.declared.derivation.Derivation.{Derivation}
-use Rattle.typing.specs.declared.derivation.Derivation.the-variants.{Typed, Refused}
+use Rattle.rules.specs.declared.derivation.Derivation.{Derivation}
+use Rattle.rules.specs.declared.derivation.Derivation.the-variants.{Typed, Refused}
 use Rattle.typing.specs.declared.signature.Listed.{Listed}
 use Rattle.typing.specs.declared.signature.Listed.the-variants.{Accepted, Bad}
 use Rattle.logic.proofs.SignatureList.{constant-right}

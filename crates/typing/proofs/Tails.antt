@@ -5,7 +5,7 @@ use mathlib.Core.Path.{_≡_, sym, ap, _∙_}
 use mathlib.Core.List.{List, [], _++_, append-nil}
 use lib.ListN.{length, take, drop, length-append, length-drop, drop-of-length-le}
 use lib.Seq.{drop-drop, drop-append-add, length-take-le, take-all}
-use Rattle.typing.specs.Scope.{tail}
+use Rattle.rules.specs.Scope.{tail}
 
 pub tail-length : (k : ℕ) (ws : List ℕ) → k ≤ length ws → length (tail k ws) ≡ k
 tail-length k ws l = let d = length-drop (length ws - k) ws in omega arith

@@ -9,7 +9,7 @@ use Rattle.logic.specs.Term.{Op, saysO, piO, lamO, appO, retO, bindO, Term, ato
 use Rattle.logic.specs.Infer.{infer, Parts, parts, same, domain}
 use Rattle.logic.proofs.Basics.{clash}
 use Rattle.logic.proofs.Results.{bind-is, then-is}
-use Rattle.typing.specs.Rule.{first, second, ready, within, formed}
+use Rattle.rules.specs.Rule.{first, second, ready, within, formed}
 
 -- the rule of a node whose first child a has the type A
 abbrev pub rule : List Term → List Term → ℕ → Op → (a b A : Term) → Result Term

@@ -11,12 +11,12 @@ use Rattle.logic.specs.Term.{Term}
 use Rattle.logic.specs.Scope.{Signature}
 use Rattle.logic.specs.Infer.{infer}
 use Rattle.logic.specs.Check.{term-of}
-use Rattle.typing.specs.Scope.{Declared}
+use Rattle.rules.specs.Scope.{Declared}
 use Rattle.logic.specs.SignatureList.{signature, constant}
-use Rattle.typing.specs.Derive.{answer-of, Front}
-use Rattle.typing.specs.declared.derivation.Derivation.{Derivation}
-use Rattle.typing.specs.declared.derivation.Verdict.{Verdict}
-use Rattle.typing.specs.declared.derivation.Verdict.the-variants.{Passed, Fault}
+use Rattle.rules.specs.Form.{answer-of, Front}
+use Rattle.rules.specs.declared.derivation.Derivation.{Derivation}
+use Rattle.rules.specs.declared.derivation.Verdict.{Verdict}
+use Rattle.rules.specs.declared.derivation.Verdict.the-variants.{Passed, Fault}
 use Rattle.typing.specs.declared.signature.Listed.{Listed}
 use Rattle.typing.specs.declared.signature.Listed.the-variants.{Accepted, Bad}
 

@@ -1,6 +1,6 @@
 // Tests 6 to 12 on a term's words.
-use crate::derivation::Derivation;
-use crate::derivation::Verdict;
+use rules::derivation::Derivation;
+use rules::derivation::Verdict;
 use crate::derive::derive;
 use words::nesting::Nesting;
 use words::nesting::nested;

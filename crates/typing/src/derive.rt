@@ -1,12 +1,12 @@
 // The derivation of a term's type.
-use crate::atom::atom;
-use crate::derivation::CONDITION_FAILS;
-use crate::derivation::Derivation;
-use crate::enter::Entered;
-use crate::enter::enter;
-use crate::formed::formed;
-use crate::scope::variable;
-use crate::sign::sign;
+use rules::atom::atom;
+use rules::derivation::CONDITION_FAILS;
+use rules::derivation::Derivation;
+use rules::enter::Entered;
+use rules::enter::enter;
+use rules::formed::formed;
+use rules::scope::variable;
+use rules::sign::sign;
 use logic::word::ATOM;
 use logic::word::PAYLOADS;
 use logic::word::SIGN;

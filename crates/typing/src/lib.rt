@@ -1,14 +1,4 @@
-// The check of a term in a lent workspace.
-pub mod apply;
-pub mod atom;
-pub mod bind;
+// The check of a term and of a signature list in a lent workspace.
 pub mod check;
-pub mod derivation;
 pub mod derive;
-pub mod enter;
-pub mod formed;
-pub mod front;
-pub mod pair;
-pub mod scope;
-pub mod sign;
 pub mod signature;

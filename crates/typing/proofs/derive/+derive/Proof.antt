@@ -15,20 +15,21 @@ use Rattle.logic.proofs.Searches.{depth-pos}
 use Rattle.words.specs.Place.{At}
 use Rattle.words.proofs.Places.{at-kind, at-end, size-pos}
 use Rattle.logic.proofs.Shapes.{headKind}
-use Rattle.typing.specs.Rule.{within}
-use Rattle.typing.specs.Derive.{Ready, Derived, level-words}
-use Rattle.typing.specs.declared.derivation.Derivation.{Derivation}
-use Rattle.typing.specs.declared.derivation.Derivation.the-variants.{Refused}
+use Rattle.rules.specs.Rule.{within}
+use Rattle.rules.specs.Form.{level-words}
+use Rattle.typing.specs.Derive.{Ready, Derived}
+use Rattle.rules.specs.declared.derivation.Derivation.{Derivation}
+use Rattle.rules.specs.declared.derivation.Derivation.the-variants.{Refused}
 use Rattle.typing.proofs.Tails.{rest-of, whole-of, rest-length, whole-length}
 use Rattle.typing.proofs.Derives.{Between, between, Inside, inside, Signed-in, signed-in, sign-derived, sign-refused, sign-ready, first-ready, two-deep, second-ready, level, atom-derived, variable-derived, first-refusal, test-refusal, second-refusal, formable, forms-here, node-derived, NodeAt, node-case, SignAt, sign-case}
 use Rattle.typing.proofs.derive.derive.Reads as derive
 use Rattle.typing.proofs.derive.derive.Kinds as kinds
 use Rattle.typing.proofs.derive.+derive.Lts-derive as lts
-use Rattle.typing.proofs.atom.atom.Reads as atom-reads
-use Rattle.typing.proofs.enter.enter.Reads as enter-reads
-use Rattle.typing.proofs.formed.formed.Reads as formed-reads
-use Rattle.typing.proofs.scope.variable.Reads as variable-reads
-use Rattle.typing.proofs.sign.sign.Reads as sign-reads
+use Rattle.rules.proofs.atom.atom.Reads as atom-reads
+use Rattle.rules.proofs.enter.enter.Reads as enter-reads
+use Rattle.rules.proofs.formed.formed.Reads as formed-reads
+use Rattle.rules.proofs.scope.variable.Reads as variable-reads
+use Rattle.rules.proofs.sign.sign.Reads as sign-reads
 use Rattle.logic.proofs.word.kind.Reads as kind-reads
 use Rattle.typing.proofs.derive.+derive.{statement}
 use Rattle.typing.proofs.derive.+derive.Tie.{close}
