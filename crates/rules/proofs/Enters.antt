@@ -1,0 +1,314 @@
+-- What the code between the children of a node answers and writes.
+use Prim.Native.Nat.{ℕ, suc, _+_, _-_, _/_, _≤_, _<_}
+use native.Mathlib.Omega.{arith}
+use mathlib.Core.Path.{_≡_, refl, sym, ap, ap₂, subst, _∙_}
+use mathlib.Core.Logic.{inl, inr}
+use mathlib.Core.Bool.{Bool, true, false, _||_}
+use mathlib.Core.List.{List, [], _∷_, _++_}
+use mathlib.Core.Option.{Option, some, none}
+use lib.Dec.{eqb}
+use lib.ListN.{length, take, drop, getD, length-append}
+use lib.IntN.{pos}
+use borrow.Author.Tests.{eqb-true, eq-eqb}
+use Rattle.logic.specs.Limits.{payloads, most-type-words}
+use Rattle.logic.specs.Refusals.{condition-fails}
+use Rattle.logic.specs.Result.{Result, ok, refused, _>>_, known}
+use Rattle.logic.specs.Term.{Op, saysO, piO, lamO, appO, retO, bindO, Op-discrete, Term, atom, var, sign, node, P, T′, N, Says, word, opWord, encode, size}
+use Rattle.logic.specs.Move.{raise}
+use Rattle.logic.specs.Reading.{branch, leaf, shape, Plain, PlainType}
+use Rattle.logic.specs.Infer.{same, condition, domain, Parts, parts}
+use Rattle.logic.proofs.Basics.{clash}
+use Rattle.logic.proofs.Proposition.{same-yes, same-no}
+use Rattle.logic.proofs.Words.{first, head, shape-first, encode-size}
+use Rattle.logic.specs.Kind.{opKind, kindOf}
+use Rattle.words.specs.Place.{At, written}
+use Rattle.words.specs.Shift.{Shifted}
+use Rattle.words.specs.Typed.{TypeAt}
+use Rattle.words.proofs.Places.{words-head, at-head, at-left}
+use Rattle.words.proofs.Shifts.{length-shift}
+use Rattle.rules.specs.Rule.{ready}
+use Rattle.rules.specs.Scope.{tail, entry-head, entry}
+use Rattle.rules.specs.Form.{front-words, level-words}
+use Rattle.rules.specs.Enter.{Enters, keep-of, Entering-by, Entering, Kept, Keepable}
+use Rattle.rules.specs.declared.enter.Entered.the-variants.{Fits, Fails}
+use Rattle.rules.proofs.Fronts.{type-part}
+use Rattle.rules.proofs.Kepts.{drop-written, written-before, written-inside, kept-tail, kept-type, kept-none}
+
+-- ---- a domain
+
+prop-word : (a : Term) → Plain a → first a ≡ word 1 0 → a ≡ P
+prop-word a p e = go a (sym (shape-first a p) ∙ ap shape e)
+  where
+    go : (a : Term) → head a ≡ leaf P → a ≡ P
+    go (atom x) q = cc
+    go (var n) q = absurd (clash (cc))
+    go (sign n t) q = absurd (clash (cc))
+    go (node o x y) q = absurd (clash (cc))
+
+pub domain-type : (a A : Term) → true ≡ same A T′ → true ≡ domain a A
+domain-type a A e = ap (λ (b : Bool). b || same A P || same a P) e
+
+pub domain-prop : (a A : Term) → false ≡ same A T′ → true ≡ same A P → true ≡ domain a A
+domain-prop a A e f = ap₂ (λ (b c : Bool). b || c || same a P) e f
+
+pub domain-word : (a A : Term) (w : ℕ) → Plain a → w ≡ first a → false ≡ same A T′ → false ≡ same A P → eqb w (word 1 0) ≡ domain a A
+domain-word a A w p q e f = go (eqb w (word 1 0)) refl ∙ ap₂ (λ (b c : Bool). b || c || same a P) e f
+  where
+    go : (b : Bool) → eqb w (word 1 0) ≡ b → b ≡ same a P
+    go true t = sym (same-yes (prop-word a p (sym q ∙ eqb-true w (word 1 0) t)))
+    go false t = sym (same-no λ s. clash (cc (t, eq-eqb w (word 1 0) (q ∙ ap first s))))
+
+-- ---- a type that is a node
+
+shape-op : (o : Op) → shape (opWord o) ≡ branch o
+shape-op saysO = refl
+shape-op piO = refl
+shape-op lamO = refl
+shape-op appO = refl
+shape-op retO = refl
+shape-op bindO = refl
+
+op-below : (o : Op) → opWord o < word 16 0
+op-below saysO = omega arith
+op-below piO = omega arith
+op-below lamO = omega arith
+op-below appO = omega arith
+op-below retO = omega arith
+op-below bindO = omega arith
+
+record NodeOf (o : Op) (A : Term) : Type 0 where
+  left : Term
+  right : Term
+  is : A ≡ node o left right
+
+node-of : (o : Op) (A : Term) → PlainType A → first A ≡ opWord o → NodeOf o A
+node-of o A (inl p) e = go A (sym (shape-first A p) ∙ ap shape e ∙ shape-op o)
+  where
+    go : (A : Term) → head A ≡ branch o → NodeOf o A
+    go (atom a) q = absurd (clash (cc))
+    go (var n) q = absurd (clash (cc))
+    go (sign n t) q = absurd (clash (cc))
+    go (node h x y) q = record { left = x; right = y; is = cc }
+node-of o A (inr (inl k)) e = let q : word 16 0 ≡ opWord o = sym (ap first k) ∙ e in let b = op-below o in absurd (omega arith)
+node-of o A (inr (inr k)) e = let q : word 17 0 ≡ opWord o = sym (ap first k) ∙ e in let b = op-below o in absurd (omega arith)
+
+parts-some : (o : Op) (x y : Term) → parts o (node o x y) ≡ some (record { left = x; right = y })
+parts-some o x y = go (Op-discrete o o)
+  where
+    go : (d : Dec (o ≡ o)) → _≡_ {A = Option Parts} (elim d [ yes _ ↦ some (record { left = x; right = y }) | no _ ↦ none ]) (some (record { left = x; right = y }))
+    go (yes q) = refl
+    go (no q) = absurd (q refl)
+
+parts-none : (o : Op) (A : Term) → (first A ≡ opWord o → ⊥) → parts o A ≡ none
+parts-none o (atom a) n = refl
+parts-none o (var k) n = refl
+parts-none o (sign k t) n = refl
+parts-none o (node h x y) n = go (Op-discrete o h)
+  where
+    go : (d : Dec (o ≡ h)) → _≡_ {A = Option Parts} (elim d [ yes _ ↦ some (record { left = x; right = y }) | no _ ↦ none ]) none
+    go (yes q) = absurd (n (ap opWord (sym q)))
+    go (no q) = refl
+
+-- ---- a Bind's entry
+
+says-plain : (p q : Term) → PlainType (Says p q) → Plain (Says p q)
+says-plain p q (inl h) = h
+says-plain p q (inr (inl e)) = absurd (clash (cc))
+says-plain p q (inr (inr e)) = absurd (clash (cc))
+
+pub says-size : (p q : Term) → size (Says p q) ≡ 1 + size p + size q
+unfolding size
+says-size p q = let e : suc (size p + size q) ≡ 1 + size p + size q = omega arith in e
+
+bind-length : (at : ℕ) (a p q : Term) → length (entry bindO at a (Says p q)) ≡ entry-head + size (Says p q)
+bind-length at a p q =
+    let m : length (encode (raise 1 p)) ≡ size p = length-shift 0 (pos 1) p in
+    let z : length (encode q) ≡ size q = encode-size q in
+    let l : length (encode (raise 1 p) ++ encode q) ≡ length (encode (raise 1 p)) + length (encode q) = length-append (encode (raise 1 p)) (encode q) in
+    let k : size (Says p q) ≡ 1 + size p + size q = says-size p q in
+    omega arith
+
+says-encode : (p q : Term) → encode (Says p q) ≡ (opWord saysO ∷ []) ++ (encode p ++ encode q)
+unfolding encode
+says-encode p q = refl
+
+-- the type's words were copied behind the entry's head
+module _ {ws mid : List ℕ} {n : ℕ} {p q : Term} (used : ℕ) (h : TypeAt ws 0 (Says p q)) (s : n ≡ size (Says p q)) (room : used + (entry-head + n) ≤ length ws)
+    (e : mid ≡ written ws (length ws - (used + (entry-head + n)) + entry-head) (take n ws)) where
+  copied : take n ws ≡ encode (Says p q)
+  copied = ap (λ (i : ℕ). take i ws) s ∙ type-part h
+
+  pub said : At mid (length ws - (used + (entry-head + n)) + entry-head + 1) p
+  said =
+      let start : ℕ = length ws - (used + (entry-head + n)) + entry-head in
+      let i : At mid start (Says p q) = record {
+        plain = says-plain p q (h .plain);
+        rest = drop (start + length (take n ws)) ws;
+        words = ap (drop start) e ∙ drop-written ws (take n ws) start (omega arith) ∙ ap (λ (x : List ℕ). x ++ drop (start + length (take n ws)) ws) copied;
+      } in
+      at-left i
+
+  -- its principal was raised, and the entry's head written
+  pub says-kept : {low new : List ℕ} {w : ℕ} (at : ℕ) (a : Term) → Shifted p 0 (pos 1) mid (length ws - (used + (entry-head + n)) + entry-head + 1) low w
+      → new ≡ written low (length ws - (used + (entry-head + n))) ((entry-head + n) ∷ 0 ∷ (n - 1 - w) ∷ []) → Kept (entry bindO at a (Says p q)) used ws new (used + (entry-head + n))
+  says-kept {low} {new} {w} at a f g =
+      let to : ℕ = length ws - (used + (entry-head + n)) in
+      let x : List ℕ = opWord saysO ∷ [] in
+      let k : n ≡ 1 + size p + size q = s ∙ says-size p q in
+      let c : w ≡ size p = f .count in
+      let m : length (encode (raise 1 p)) ≡ size p = length-shift 0 (pos 1) p in
+      let y : length (encode p) ≡ size p = encode-size p in
+      let t : n - 1 - w ≡ size q = omega arith in
+      let u : low ≡ written ws (to + entry-head) (x ++ (encode (raise 1 p) ++ encode q)) =
+      f .words
+      ∙ ap (λ (o : List ℕ). written o (to + entry-head + 1) (encode (raise 1 p))) (e ∙ ap (written ws (to + entry-head)) (copied ∙ says-encode p q))
+      ∙ written-inside ws (to + entry-head) x (encode p) (encode q) (encode (raise 1 p)) (omega arith) (m ∙ sym y) in
+      let xs : List ℕ = entry bindO at a (Says p q) in
+      let r : entry-head + n ≡ length xs = ap (λ (i : ℕ). entry-head + i) s ∙ sym (bind-length at a p q) in
+      record {
+        count = ap (λ (i : ℕ). used + i) r;
+        words = g
+            ∙ ap (λ (o : List ℕ). written o to ((entry-head + n) ∷ 0 ∷ (n - 1 - w) ∷ [])) u
+            ∙ written-before ws to ((entry-head + n) ∷ 0 ∷ (n - 1 - w) ∷ []) (x ++ (encode (raise 1 p) ++ encode q)) (omega arith)
+            ∙ ap₂ (λ (i j : ℕ). written ws to (i ∷ 0 ∷ j ∷ (x ++ (encode (raise 1 p) ++ encode q)))) (ap (λ (i : ℕ). entry-head + i) s) t
+            ∙ ap (λ (i : ℕ). written ws (length ws - (used + i)) xs) r;
+      }
+
+-- ---- a node's rule: the test, the entry, and the words kept at the front
+
+record Rule (o : Op) (at : ℕ) (a A : Term) (n : ℕ) (test : Result (Unit {0})) (xs : List ℕ) (keep : ℕ) : Type 0 where
+  tests : ready o at a A ≡ test
+  keeps : entry o at a A ≡ xs
+  front : keep-of o n ≡ keep
+
+-- the test of App and of Bind: the first child's type is a node of the kind h
+abbrev node-test : Op → ℕ → Term → Result (Unit {0})
+node-test h at A = known condition-fails at (parts h A) >> ok tt
+
+app-rule : (o : Op) (at : ℕ) (a A : Term) (n w : ℕ) → w ≡ opWord o → w / payloads ≡ 10 → Rule o at a A n (node-test piO at A) [] n
+unfolding ready
+app-rule saysO at a A n w e t = absurd (omega arith)
+app-rule piO at a A n w e t = absurd (omega arith)
+app-rule lamO at a A n w e t = absurd (omega arith)
+app-rule appO at a A n w e t = record { tests = refl; keeps = refl; front = refl }
+app-rule retO at a A n w e t = absurd (omega arith)
+app-rule bindO at a A n w e t = absurd (omega arith)
+
+bind-rule : (o : Op) (at : ℕ) (a A : Term) (n w : ℕ) → w ≡ opWord o → w / payloads ≡ 15 → Rule o at a A n (node-test saysO at A) (entry bindO at a A) 0
+unfolding ready
+bind-rule saysO at a A n w e t = absurd (omega arith)
+bind-rule piO at a A n w e t = absurd (omega arith)
+bind-rule lamO at a A n w e t = absurd (omega arith)
+bind-rule appO at a A n w e t = absurd (omega arith)
+bind-rule retO at a A n w e t = absurd (omega arith)
+bind-rule bindO at a A n w e t = record { tests = refl; keeps = refl; front = refl }
+
+kind-op : (o : Op) → kindOf (shape (opWord o)) ≡ opKind o
+kind-op o = ap kindOf (shape-op o)
+
+-- of Pi and Lam
+binder-rule : (o : Op) (at : ℕ) (a A : Term) (n w : ℕ) → w ≡ opWord o → (w / payloads ≡ 15 → ⊥) → opKind o ≡ 4 → Rule o at a A n (condition at (domain a A)) (entry-head ∷ (at + 1) ∷ size a ∷ []) 0
+unfolding ready
+binder-rule saysO at a A n w e q k = absurd (omega arith)
+binder-rule piO at a A n w e q k = record { tests = refl; keeps = refl; front = refl }
+binder-rule lamO at a A n w e q k = record { tests = refl; keeps = refl; front = refl }
+binder-rule appO at a A n w e q k = absurd (omega arith)
+binder-rule retO at a A n w e q k = absurd (omega arith)
+binder-rule bindO at a A n w e q k = absurd (q (omega arith))
+
+-- of Says and Ret
+plain-rule : (o : Op) (at : ℕ) (a A : Term) (n w : ℕ) → w ≡ opWord o → (w / payloads ≡ 10 → ⊥) → (opKind o ≡ 4 → ⊥) → Rule o at a A n (condition at (same A N)) [] 0
+unfolding ready
+plain-rule saysO at a A n w e q k = record { tests = refl; keeps = refl; front = refl }
+plain-rule piO at a A n w e q k = absurd (k refl)
+plain-rule lamO at a A n w e q k = absurd (k refl)
+plain-rule appO at a A n w e q k = absurd (q (omega arith))
+plain-rule retO at a A n w e q k = record { tests = refl; keeps = refl; front = refl }
+plain-rule bindO at a A n w e q k = absurd (k refl)
+
+module _ {o : Op} {at : ℕ} {a A : Term} {n : ℕ} {test : Result (Unit {0})} {xs : List ℕ} {keep : ℕ} (rule : Rule o at a A n test xs keep) where
+  passes : (used : ℕ) (old new : List ℕ) (r : ℕ) → test ≡ ok tt → Kept xs used old new r → used + length xs + size A ≤ length old → TypeAt old 0 A → Entering o at a A n used old new (Fits keep r)
+  unfolding Entering
+  passes used old new r e k l h =
+      let x : entry o at a A ≡ xs = rule .keeps in
+      subst (λ (t : Result (Unit {0})). Entering-by t o at a A n used old new (Fits keep r)) (sym (rule .tests ∙ e)) (
+        ap₂ (λ (i j : ℕ). Fits i j) (sym (rule .front)) (k .count ∙ ap (λ (y : List ℕ). used + length y) (sym x)),
+        ap (λ (y : List ℕ). tail (used + length y) new) x ∙ kept-tail xs old new used r (omega arith) k ∙ ap (λ (y : List ℕ). y ++ tail used old) (sym x),
+        kept-type xs old new used r (omega arith) k A l h,
+      )
+
+  fails : (used : ℕ) (old : List ℕ) (p : ℕ) → test ≡ refused condition-fails p → Entering o at a A n used old old Fails
+  unfolding Entering
+  fails used old p e = subst (λ (x : Result (Unit {0})). Entering-by x o at a A n used old old Fails) (sym (rule .tests ∙ e)) (refl, refl)
+
+-- ---- the answers
+
+module _ {proof ws : List ℕ} {at next n : ℕ} {o : Op} {a A : Term} (used : ℕ) (room : used + level-words + front-words ≤ length ws) (small : n ≤ most-type-words) (j : Enters proof ws at next n o a A) where
+  front-first : getD ws 0 0 ≡ first A
+  front-first = words-head ws 0 A (j .type .rest) (j .type .words)
+
+  -- nothing is kept at the end
+  passes-none : {test : Result (Unit {0})} {keep : ℕ} → Rule o at a A n test [] keep → test ≡ ok tt → Entering o at a A n used ws ws (Fits keep used)
+  passes-none rule e = let w : n ≡ size A = j .type-words in passes rule used ws ws used e (kept-none ws used) (omega arith) (j .type)
+
+  node-passes : (h : Op) → getD ws 0 0 ≡ opWord h → node-test h at A ≡ ok tt
+  node-passes h e = let i = node-of h A (j .type .plain) (sym front-first ∙ e) in ap (λ (B : Term). node-test h at B) (i .is) ∙ ap (λ (x : Option Parts). known condition-fails at x >> ok tt) (parts-some h (i .left) (i .right))
+
+  node-fails : (h : Op) → (getD ws 0 0 ≡ opWord h → ⊥) → node-test h at A ≡ refused condition-fails at
+  node-fails h q = ap (λ (x : Option Parts). known condition-fails at x >> ok tt) (parts-none h A λ e. q (front-first ∙ e))
+
+  pub app-passes : getD proof at 0 / payloads ≡ 10 → getD ws 0 0 ≡ opWord piO → Entering o at a A n used ws ws (Fits n used)
+  app-passes t e = passes-none (app-rule o at a A n _ (j .head) t) (node-passes piO e)
+
+  pub app-fails : getD proof at 0 / payloads ≡ 10 → (getD ws 0 0 ≡ opWord piO → ⊥) → Entering o at a A n used ws ws Fails
+  app-fails t q = fails (app-rule o at a A n _ (j .head) t) used ws at (node-fails piO q)
+
+  -- what `keep_says` asks
+  pub bind-keeps : getD ws 0 0 ≡ opWord saysO → Keepable ws used n
+  bind-keeps e =
+      let i = node-of saysO A (j .type .plain) (sym front-first ∙ e) in
+      record { p = i .left; q = i .right; type = subst (TypeAt ws 0) (i .is) (j .type); type-words = j .type-words ∙ ap size (i .is); small = small; room = room }
+
+  pub bind-passes : {new : List ℕ} {r : ℕ} → getD proof at 0 / payloads ≡ 15 → getD ws 0 0 ≡ opWord saysO → ((i : ℕ) (b p q : Term) → TypeAt ws 0 (Says p q) → n ≡ size (Says p q) → Kept (entry bindO i b (Says p q)) used ws new r) → Entering o at a A n used ws new (Fits 0 r)
+  bind-passes {new} {r} t e f =
+      let i = node-of saysO A (j .type .plain) (sym front-first ∙ e) in
+      let p : Term = i .left in
+      let q : Term = i .right in
+      let w : n ≡ size A = j .type-words in
+      let k : Kept (entry bindO at a A) used ws new r = subst (λ (B : Term). Kept (entry bindO at a B) used ws new r) (sym (i .is)) (f at a p q (subst (TypeAt ws 0) (i .is) (j .type)) (w ∙ ap size (i .is))) in
+      let l : length (entry bindO at a A) ≡ entry-head + size A = ap (λ (B : Term). length (entry bindO at a B)) (i .is) ∙ bind-length at a p q ∙ ap (λ (B : Term). entry-head + size B) (sym (i .is)) in
+      passes (bind-rule o at a A n _ (j .head) t) used ws new r (node-passes saysO e) k (omega arith) (j .type)
+
+  pub bind-fails : getD proof at 0 / payloads ≡ 15 → (getD ws 0 0 ≡ opWord saysO → ⊥) → Entering o at a A n used ws ws Fails
+  bind-fails t q = fails (bind-rule o at a A n _ (j .head) t) used ws at (node-fails saysO q)
+
+  -- what `kind` answers
+  op-kind : (k : ℕ) → k ≡ kindOf (shape (getD proof at 0)) → opKind o ≡ k
+  op-kind k e = sym (e ∙ ap (λ (w : ℕ). kindOf (shape w)) (j .head) ∙ kind-op o)
+
+  -- what `domain` answers
+  abbrev Answers : Bool → Type 0
+  Answers b = (d s : Term) → Plain d → getD proof (at + 1) 0 ≡ first d → TypeAt ws 0 s → n ≡ size s → b ≡ domain d s
+
+  domain-is : (b : Bool) → Answers b → b ≡ domain a A
+  domain-is b f = f a A (j .here .plain) (at-head (j .here)) (j .type) (j .type-words)
+
+  pub binder-passes : {new : List ℕ} {r k : ℕ} {b : Bool} → (getD proof at 0 / payloads ≡ 15 → ⊥) → k ≡ kindOf (shape (getD proof at 0)) → k ≡ 4 → b ≡ true → Answers b → Kept (entry-head ∷ (at + 1) ∷ (next - (at + 1)) ∷ []) used ws new r → Entering o at a A n used ws new (Fits 0 r)
+  binder-passes {new} {r} {k} {b} t e i d f g =
+      let w : n ≡ size A = j .type-words in
+      let x : next ≡ at + 1 + size a = j .next-is in
+      let y : next - (at + 1) ≡ size a = omega arith in
+      passes (binder-rule o at a A n _ (j .head) t (op-kind k e ∙ i)) used ws new r
+      (ap (condition at) (sym (domain-is b f) ∙ d))
+      (subst (λ (m : ℕ). Kept (entry-head ∷ (at + 1) ∷ m ∷ []) used ws new r) y g)
+      (omega arith)
+      (j .type)
+
+  pub binder-fails : {k : ℕ} {b : Bool} → (getD proof at 0 / payloads ≡ 15 → ⊥) → k ≡ kindOf (shape (getD proof at 0)) → k ≡ 4 → b ≡ false → Answers b → Entering o at a A n used ws ws Fails
+  binder-fails {k} {b} t e i d f = fails (binder-rule o at a A n _ (j .head) t (op-kind k e ∙ i)) used ws at (ap (condition at) (sym (domain-is b f) ∙ d))
+
+  pub plain-passes : {k : ℕ} {b : Bool} → (getD proof at 0 / payloads ≡ 10 → ⊥) → k ≡ kindOf (shape (getD proof at 0)) → (k ≡ 4 → ⊥) → b ≡ true → b ≡ same A N → Entering o at a A n used ws ws (Fits 0 used)
+  plain-passes {k} t e q d f = passes-none (plain-rule o at a A n _ (j .head) t (λ i. q (sym (op-kind k e) ∙ i))) (ap (condition at) (sym f ∙ d))
+
+  pub plain-fails : {k : ℕ} {b : Bool} → (getD proof at 0 / payloads ≡ 10 → ⊥) → k ≡ kindOf (shape (getD proof at 0)) → (k ≡ 4 → ⊥) → b ≡ false → b ≡ same A N → Entering o at a A n used ws ws Fails
+  plain-fails {k} t e q d f = fails (plain-rule o at a A n _ (j .head) t (λ i. q (sym (op-kind k e) ∙ i))) used ws at (ap (condition at) (sym f ∙ d))

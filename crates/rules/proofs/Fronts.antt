@@ -1,0 +1,108 @@
+-- The type at the front of the workspace: what stands there, what is written there, and what a rule answers.
+use Prim.Native.Nat.{ℕ, _+_, _-_, _≤_, _<_}
+use native.Mathlib.Omega.{arith}
+use mathlib.Core.Path.{_≡_, refl, sym, ap, subst, _∙_}
+use mathlib.Core.Bool.{Bool, true, false, not}
+use mathlib.Core.List.{List, [], _∷_, _++_, append-assoc}
+use lib.Dec.{eqb}
+use lib.ListN.{length, take, drop, getD}
+use lib.Seq.{drop-drop, take-at, drop-at, length-take-le}
+use borrow.Author.Tests.{not-true, eqb-true, eq-eqb, le-leb, lt-leb}
+use Rattle.logic.specs.Limits.{most-type-words}
+use Rattle.logic.specs.Refusals.{condition-fails, type-too-long}
+use Rattle.logic.specs.Result.{Result, ok, refused, _>>_}
+use Rattle.logic.specs.Term.{Atom, Term, atom, var, sign, node, atomWord, encode, size}
+use Rattle.logic.specs.Reading.{PlainType}
+use Rattle.logic.specs.Infer.{same, condition, measured}
+use Rattle.logic.proofs.Basics.{clash}
+use Rattle.logic.proofs.Proposition.{same-true, same-yes, same-no}
+use Rattle.logic.proofs.Words.{first, InRangeAtom, InRange, encode-size, encode-injective}
+use Rattle.words.specs.Place.{written}
+use Rattle.words.specs.Typed.{TypeAt}
+use Rattle.words.proofs.Lists.{length-head}
+use Rattle.words.proofs.Places.{size-pos, words-head}
+use Rattle.words.proofs.Types.{in-range}
+use Rattle.rules.specs.Form.{front-words, Formed}
+use Rattle.rules.specs.declared.derivation.Derivation.the-variants.{Typed, Refused}
+
+-- ---- a type of one word
+
+one-word : (A : Term) → size A ≡ 1 → encode A ≡ first A ∷ []
+unfolding size encode
+one-word (atom a) e = refl
+one-word (var n) e = refl
+one-word (sign n q) e = let h = size-pos q in absurd (omega arith)
+one-word (node o a b) e = let h = size-pos a in absurd (omega arith)
+
+-- two tests that pass together are the same
+same-test : (b c : Bool) → (b ≡ true → c ≡ true) → (c ≡ true → b ≡ true) → b ≡ c
+same-test true c f g = sym (f refl)
+same-test false true f g = g refl
+same-test false false f g = refl
+
+-- a test that was denied does not pass
+pub denied : (b : Bool) → not b ≡ true → b ≡ true → ⊥
+denied b e p = clash (cc (not-true b e))
+
+module _ (ws : List ℕ) (n w : ℕ) (A : Term) (a : Atom) (h : TypeAt ws 0 A) (s : n ≡ size A) (e : w ≡ atomWord a) (r : InRangeAtom a) where
+  pub front-word : n ≡ 1 → eqb (getD ws 0 0) w ≡ same A (atom a)
+  unfolding encode InRange
+  front-word q =
+      let f : getD ws 0 0 ≡ first A = words-head ws 0 A (h .rest) (h .words) in
+      let o = one-word A (sym s ∙ q) in
+      same-test _ _
+      (λ t. same-yes (encode-injective A (atom a) (in-range A (h .plain)) r (o ∙ ap (λ (x : ℕ). x ∷ []) (sym f ∙ eqb-true _ _ t ∙ e))))
+      (λ t. eq-eqb _ _ (f ∙ ap first (same-true A (atom a) t) ∙ sym e))
+
+  pub front-words-more : (n ≡ 1 → ⊥) → false ≡ same A (atom a)
+  unfolding size
+  front-words-more q = sym (same-no (λ t. q (s ∙ ap size t)))
+
+-- ---- what stands there, and what is written
+
+pub type-part : {ws : List ℕ} {at : ℕ} {A : Term} → TypeAt ws at A → take (size A) (drop at ws) ≡ encode A
+type-part {A} h = ap (take (size A)) (h .words) ∙ take-at (encode A) (h .rest) (size A) (encode-size A)
+
+-- what stands behind the words written is as it was
+pub written-kept : (old new xs : List ℕ) (to k : ℕ) → to ≤ length old → new ≡ written old to xs → to + length xs ≤ k → drop k new ≡ drop k old
+written-kept old new xs to k l e h =
+    let n : ℕ = to + length xs in
+    let q : k ≡ to + length xs + (k - (to + length xs)) = omega arith in
+    ap (λ (i : ℕ). drop i new) q
+    ∙ sym (drop-drop (k - n) n new)
+    ∙ ap (drop (k - n)) (ap (drop n) e ∙ drop-at (take to old ++ xs) (drop n old) n (length-head old to xs l))
+    ∙ drop-drop (k - n) n old
+    ∙ ap (λ (i : ℕ). drop i old) (sym q)
+
+-- the words written stand there
+pub written-there : (old new xs : List ℕ) (to n : ℕ) → to ≤ length old → new ≡ written old to xs → n ≡ length xs → take n (drop to new) ≡ xs
+written-there old new xs to n l e q =
+    let r : List ℕ = drop (to + length xs) old in
+    ap (λ (x : List ℕ). take n (drop to x)) (e ∙ append-assoc (take to old) xs r)
+    ∙ ap (take n) (drop-at (take to old) (xs ++ r) to (length-take-le to old l))
+    ∙ take-at xs r n (sym q)
+
+-- ---- what a rule answers
+
+pub fails : (at : ℕ) (b : Bool) (s : Result Term) → b ≡ false → (condition at b >> s) ≡ refused condition-fails at
+fails at b s e = ap (λ (b : Bool). condition at b >> s) e
+
+pub measured-fits : (at : ℕ) (A : Term) → size A ≤ most-type-words → measured at A ≡ ok A
+measured-fits at A l = simp (le-leb (size A) most-type-words l)
+
+pub measured-long : (at : ℕ) (A : Term) → most-type-words < size A → measured at A ≡ refused type-too-long at
+measured-long at A l = simp (lt-leb (size A) most-type-words l)
+
+-- a refusal writes nothing
+pub refuses : (o : Result Term) (m p end : ℕ) (ws : List ℕ) → o ≡ refused m p → Formed o end ws ws (Refused m p)
+refuses o m p end ws e = subst (λ (o : Result Term). Formed o end ws ws (Refused m p)) (sym e) (record { answer = refl; front = tt; rest = refl })
+
+pub types : (o : Result Term) (A : Term) (words end : ℕ) (ws new : List ℕ) → o ≡ ok A → words ≡ size A → TypeAt new 0 A → drop front-words new ≡ drop front-words ws → Formed o end ws new (Typed words end)
+types o A words end ws new e s h r =
+    subst (λ (o : Result Term). Formed o end ws new (Typed words end)) (sym e) (record { answer = ap (λ (w : ℕ). Typed w end) s; front = h; rest = r })
+
+-- the words of the type were written at the front, after others that left the rest
+pub writes : (o : Result Term) (A : Term) (words end : ℕ) (ws mid new : List ℕ) → o ≡ ok A → words ≡ size A → size A ≤ most-type-words → PlainType A → drop front-words mid ≡ drop front-words ws → new ≡ written mid 0 (encode A) → Formed o end ws new (Typed words end)
+writes o A words end ws mid new e s l p k w =
+    let z : length (encode A) ≡ size A = encode-size A in
+    types o A words end ws new e s (record { plain = p; rest = drop (0 + length (encode A)) mid; words = w }) (written-kept mid new (encode A) 0 front-words (omega arith) w (omega arith) ∙ k)

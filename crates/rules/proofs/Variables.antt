@@ -1,0 +1,141 @@
+-- A variable's type, from its binder's entry.
+use Prim.Native.Nat.{ℕ, zero, suc, _+_, _-_, _≤_, _<_}
+use native.Mathlib.Omega.{arith}
+use mathlib.Core.Path.{_≡_, refl, sym, ap, subst, _∙_}
+use mathlib.Core.Logic.{inl}
+use mathlib.Core.Bool.{Bool, true, false}
+use mathlib.Core.List.{List, [], _∷_, _++_, append-assoc}
+use mathlib.Core.Option.{Option, some, none}
+use lib.ListN.{length, take, drop, getD, getElem?, take-append-drop}
+use lib.Seq.{drop-drop}
+use lib.Dec.{ltb}
+use lib.IntN.{ℤ, pos}
+use Rattle.logic.specs.Limits.{most-type-words}
+use Rattle.logic.specs.Refusals.{unbound-variable, type-too-long}
+use Rattle.logic.specs.Result.{_>>=_, known, pick}
+use Rattle.logic.specs.Term.{Term, encode, size}
+use Rattle.logic.specs.Move.{shift, raise}
+use Rattle.logic.specs.Infer.{measured}
+use Rattle.words.specs.Place.{At, Is, written}
+use Rattle.words.specs.Lookup.{partOf}
+use Rattle.words.specs.Shift.{Shifted}
+use Rattle.words.proofs.Lists.{written-front}
+use Rattle.words.proofs.Places.{is-at}
+use Rattle.words.proofs.Shifts.{size-shift, length-shift}
+use Rattle.rules.specs.Rule.{variable-type}
+use Rattle.rules.specs.Scope.{tail, scope-words, entry-head}
+use Rattle.rules.specs.Form.{Formed}
+use Rattle.rules.specs.Variable.{Found, Raises}
+use Rattle.rules.specs.declared.derivation.Derivation.the-variants.{Typed, Refused}
+use Rattle.rules.proofs.Fronts.{measured-fits, measured-long, refuses, writes}
+use Rattle.rules.proofs.Results.{part-is}
+use Rattle.rules.proofs.Scopes.{drop-take, scope-length, entry-at, no-binders}
+
+first-of-rest : (Γ : List Term) (n : ℕ) → getElem? (drop n Γ) 0 ≡ getElem? Γ n
+first-of-rest [] zero = refl
+first-of-rest [] (suc n) = refl
+first-of-rest (A ∷ Γ) zero = refl
+first-of-rest (A ∷ Γ) (suc n) = first-of-rest Γ n
+
+pub picked-true : (b : Bool) (x y : ℕ) {r : ℕ} → b ≡ true → r ≡ x → r ≡ pick b x y
+picked-true b x y e q = q ∙ ap (λ (b : Bool). pick b x y) (sym e)
+
+pub picked-false : (b : Bool) (x y : ℕ) {r : ℕ} → b ≡ false → r ≡ y → r ≡ pick b x y
+picked-false b x y e q = q ∙ ap (λ (b : Bool). pick b x y) (sym e)
+
+pub picked-length : (b : Bool) (x y : List ℕ) → length (pick b x y) ≤ length x + length y
+picked-length true x y = omega arith
+picked-length false x y = omega arith
+
+-- a term that stands in a part of a list stands in the list
+at-inside : (ws : List ℕ) (m k i : ℕ) (t : Term) → At (take k (drop m ws)) i t → At ws (m + i) t
+at-inside ws m k i t h = record {
+  plain = h .plain;
+  rest = h .rest ++ drop (k - i) (drop i (drop m ws));
+  words = sym (drop-drop i m ws)
+      ∙ sym (take-append-drop (k - i) (drop i (drop m ws)))
+      ∙ ap (λ (x : List ℕ). x ++ drop (k - i) (drop i (drop m ws))) (sym (drop-take i k (drop m ws)) ∙ h .words)
+      ∙ append-assoc (encode t) (h .rest) (drop (k - i) (drop i (drop m ws)));
+}
+
+-- ---- the entry of variable n's binder
+
+pub record Entry (proof ws : List ℕ) (kept n : ℕ) (Γ : List Term) : Type 0 where
+  pub type : Term
+  pub known : getElem? Γ n ≡ some type
+  pub type-words : getD ws (length ws - kept + 2) 0 ≡ size type
+  pub fits : kept ≤ length ws
+  pub head : entry-head ≤ getD ws (length ws - kept) 0
+  pub inside : getD ws (length ws - kept) 0 ≤ kept
+  pub within : ltb entry-head (getD ws (length ws - kept) 0) ≡ true → getD ws (length ws - kept + 2) 0 ≤ getD ws (length ws - kept) 0
+  pub here : At (pick (ltb entry-head (getD ws (length ws - kept) 0)) ws proof)
+      (pick (ltb entry-head (getD ws (length ws - kept) 0)) (length ws - kept + (getD ws (length ws - kept) 0 - getD ws (length ws - kept + 2) 0)) (getD ws (length ws - kept + 1) 0)) type
+
+-- where the words of the scope stand
+in-scope : (b : Bool) (proof ws : List ℕ) (floor kept i start : ℕ) (A : Term) → At (pick b (scope-words floor kept ws) proof) (pick b i start) A → At (pick b ws proof) (pick b (length ws - kept + i) start) A
+in-scope true proof ws floor kept i start A h = at-inside ws (length ws - kept) (kept - floor) i A h
+in-scope false proof ws floor kept i start A h = h
+
+pub entry-of : {proof ws : List ℕ} {floor used n kept : ℕ} {Γ : List Term} → used ≤ length ws → (kept ≡ floor → ⊥) → Found proof ws floor used n Γ kept → Entry proof ws kept n Γ
+entry-of {proof} {ws} {floor} {used} {n} {kept} {Γ} l q f =
+    let least : floor ≤ kept = f .least in
+    let most : kept ≤ used = f .most in
+    let less : floor < kept = omega arith in
+    let b : kept ≤ length ws = omega arith in
+    let e = entry-at proof ws floor kept (drop n Γ) less b (f .binders) in
+    let i : getD ws (length ws - kept) 0 ≤ length (scope-words floor kept ws) = e .inside in
+    let s : length (scope-words floor kept ws) ≡ kept - floor = scope-length floor kept ws b in
+    record {
+      type = e .type;
+      known = sym (first-of-rest Γ n) ∙ e .known;
+      type-words = e .type-words;
+      fits = b;
+      head = e .head;
+      inside = omega arith;
+      within = e .within;
+      here = in-scope (ltb entry-head (getD ws (length ws - kept) 0)) proof ws floor kept _ _ (e .type) (e .here);
+    }
+
+-- ---- what the code answers
+
+pub variable-unbound : {proof ws : List ℕ} {floor used n kept : ℕ} {Γ : List Term} (at : ℕ) → kept ≡ floor → Found proof ws floor used n Γ kept → Formed (variable-type Γ at n) (at + 1) ws ws (Refused unbound-variable at)
+variable-unbound {proof} {ws} {floor} {used} {n} {kept} {Γ} at e f =
+    let z : kept - floor ≡ 0 = omega arith in
+    let o : drop n Γ ≡ [] = no-binders proof (scope-words floor kept ws) (drop n Γ) (ap (λ (i : ℕ). take i (tail kept ws)) z) (f .binders) in
+    let m : getElem? Γ n ≡ none = sym (first-of-rest Γ n) ∙ ap (λ (Δ : List Term). getElem? Δ 0) o in
+    refuses (variable-type Γ at n) unbound-variable at (at + 1) ws (ap (λ (o : Option Term). known unbound-variable at o >>= λ A. measured at (raise (suc n) A)) m)
+
+module _ {proof ws : List ℕ} {kept n : ℕ} {Γ : List Term} (at : ℕ) (e : Entry proof ws kept n Γ) where
+  variable-is : variable-type Γ at n ≡ measured at (raise (suc n) (e .type))
+  variable-is = ap (λ (o : Option Term). known unbound-variable at o >>= λ A. measured at (raise (suc n) A)) (e .known)
+
+  raised-words : size (raise (suc n) (e .type)) ≡ getD ws (length ws - kept + 2) 0
+  raised-words = size-shift 0 (pos (suc n)) (e .type) ∙ sym (e .type-words)
+
+  pub variable-long : most-type-words < getD ws (length ws - kept + 2) 0 → Formed (variable-type Γ at n) (at + 1) ws ws (Refused type-too-long at)
+  variable-long l =
+      let r : size (raise (suc n) (e .type)) ≡ getD ws (length ws - kept + 2) 0 = raised-words in
+      refuses (variable-type Γ at n) type-too-long at (at + 1) ws (variable-is ∙ measured-long at (raise (suc n) (e .type)) (omega arith))
+
+  -- what is looked up is the type's words
+  pub looked-up : {from : ℕ} {part : List ℕ} → from ≡ pick (ltb entry-head (getD ws (length ws - kept) 0)) (length ws - kept + (getD ws (length ws - kept) 0 - getD ws (length ws - kept + 2) 0)) (getD ws (length ws - kept + 1) 0)
+      → part ≡ partOf proof ws (ltb entry-head (getD ws (length ws - kept) 0)) from (from + getD ws (length ws - kept + 2) 0) → Is part (e .type)
+  looked-up {from} {part} f p =
+      let b : Bool = ltb entry-head (getD ws (length ws - kept) 0) in
+      subst (λ (x : List ℕ). Is x (e .type)) (sym p)
+      (part-is (pick b ws proof) from (from + getD ws (length ws - kept + 2) 0) (e .type) (subst (λ (i : ℕ). At (pick b ws proof) i (e .type)) (sym f) (e .here)) (ap (λ (k : ℕ). from + k) (e .type-words)))
+
+  pub variable-found : {z : ℤ} {part zeros raised new : List ℕ} {w : ℕ} → getD ws (length ws - kept + 2) 0 ≤ most-type-words → z ≡ pos (suc n) → Is part (e .type)
+      → ((t : Term) → At part 0 t → Shifted t 0 z zeros 0 raised w) → new ≡ written ws 0 (take w raised) → Raises Γ n → Formed (variable-type Γ at n) (at + 1) ws new (Typed w (at + 1))
+  variable-found {z} {part} {zeros} {raised} {new} {w} l y i f c h =
+      let A : Term = e .type in
+      let s = f A (is-at i) in
+      let r : size (raise (suc n) (e .type)) ≡ getD ws (length ws - kept + 2) 0 = raised-words in
+      let t : getD ws (length ws - kept + 2) 0 ≡ size A = e .type-words in
+      writes (variable-type Γ at n) (raise (suc n) A) w (at + 1) ws ws new
+      (variable-is ∙ measured-fits at (raise (suc n) A) (omega arith))
+      (s .count ∙ sym (size-shift 0 (pos (suc n)) A))
+      (omega arith)
+      (h A (e .known) (omega arith))
+      refl
+      (c ∙ ap (written ws 0) (written-front zeros raised (encode (shift 0 z A)) w (s .words) (s .count ∙ sym (length-shift 0 z A)) ∙ ap (λ (v : ℤ). encode (shift 0 v A)) y))

@@ -1,0 +1,179 @@
+use Prim.Native.Nat.{ℕ, _+_, _-_, _≤_}
+use native.Mathlib.Omega.{arith}
+use mathlib.Core.Path.{_≡_, refl}
+use lib.ListN.{length, take, drop, replicate}
+use borrow.Author.Tests.{not-false}
+use borrow.Author.Needs.{needs}
+use Rattle.logic.specs.Move.{fillAt}
+use Rattle.logic.specs.Limits.{most-words, most-type-words}
+use Rattle.logic.specs.Term.{Term, size}
+use Rattle.words.specs.Fill.{FilledTo}
+use Rattle.words.proofs.Fills.{done-is}
+use Rattle.words.proofs.Places.{at-end, size-is}
+use Rattle.rules.specs.Form.{front-words}
+use Rattle.rules.specs.Results.{Applies}
+use Rattle.rules.proofs.Results.{function-size, apply-short, apply-differs, body-at, argument-is, apply-over, apply-done}
+use Rattle.rules.proofs.apply.apply.Statement.{statement}
+use Rattle.rules.proofs.apply.apply.Tie as tie
+
+-- the numbers of the types that `requires` brought
+record Sizes (len plen n m next end C e : ℕ) : Type 0 where
+  body : C ≤ n
+  small : n ≤ most-type-words
+  room : n + front-words ≤ len
+  argument : next + e ≤ plen
+  end-is : end ≡ next + e
+  short : plen ≤ most-words
+
+sizes : (s : tie.Start) → Sizes (length (s .args .ws .now)) (length (s .args .proof .now)) (s .args .n) (s .args .m) (s .args .next) (s .args .end) (size (s .pre .C)) (size (s .pre .e))
+sizes s =
+    let a = s .args in
+    let p = s .pre in
+    let k = function-size (a .proof .now) (a .ws .now) (a .at) (a .next) (a .n) (a .m) (a .end) (p .d) (p .C) (p .e) (p .E) (p .applies) in
+    record { body = omega arith; small = p .small; room = p .room; argument = at-end (p .applies .here); end-is = p .applies .end-is; short = p .short }
+
+-- the words compared are the same
+agree : (c : tie.Else2) → take (1 + c .before .before .before .before .before .before .before .before .args .m - 1) (drop 1 (c .before .before .before .before .before .before .before .before .args .ws .now)) ≡ take (c .before .before .before .before .before .before .before .before .args .n + c .before .before .before .before .before .before .before .before .args .m - c .before .before .before .before .before .before .before .before .args .n) (drop (c .before .before .before .before .before .before .before .before .args .n) (c .before .before .before .before .before .before .before .before .args .ws .now))
+agree c = c .before .same .ensures .0 (not-false (c .before .same .result) (c .if2 .left))
+
+-- what filling says, of any types that stand there
+filled : (c : tie.After-fill-into) (d C e E : Term) → Applies (c .before .before .before .before .before .before .before .before .before .before .before .before .args .proof .now) (c .before .before .before .before .before .before .before .before .before .before .before .before .args .ws .now) (c .before .before .before .before .before .before .before .before .before .before .before .before .args .next) (c .before .before .before .before .before .before .before .before .before .before .before .before .args .n) (c .before .before .before .before .before .before .before .before .before .before .before .before .args .m) (c .before .before .before .before .before .before .before .before .before .before .before .before .args .end) d C e E → FilledTo C (fillAt 0 e C) (1 + c .before .before .before .before .before .before .before .before .before .before .before .before .args .m) (replicate most-type-words 0) 0 (c .fill-into .last .1 .1 .1 .1 .0) (c .fill-into .result)
+filled c d C e E j =
+    let a = c .before .before .before .before .before .before .before .before .before .before .before .before .args in
+    let q = agree (c .before .before .before .before) in
+    c .fill-into .ensures C e (body-at (a .proof .now) (a .ws .now) (a .at) (a .next) (a .n) (a .m) (a .end) d C e E j q) (argument-is (a .proof .now) (a .ws .now) (a .at) (a .next) (a .n) (a .m) (a .end) d C e E j q)
+
+add-body : tie.Need-add-body
+add-body c = search needs
+
+returns : tie.Need-returns
+returns c = let a = c .before .before .before .args in λ d C e E j. apply-short (a .proof .now) (a .ws .now) (a .at) (a .next) (a .n) (a .m) (a .end) d C e E j (c .if1 .taken)
+
+sub-same : tie.Need-sub-same
+sub-same c = search needs
+
+part-same-start : tie.Need-part-same-start
+part-same-start c = search needs
+
+part-same-end : tie.Need-part-same-end
+part-same-end c = search needs
+
+add-same : tie.Need-add-same
+add-same c = search needs
+
+mul-same : tie.Need-mul-same
+mul-same c = search needs
+
+sub-same-2 : tie.Need-sub-same-2
+sub-same-2 c = search needs
+
+part-same-start-2 : tie.Need-part-same-start-2
+part-same-start-2 c = search needs
+
+part-same-end-2 : tie.Need-part-same-end-2
+part-same-end-2 c = search needs
+
+same-requires : tie.Need-same-requires
+same-requires c κs = search needs
+
+same-length : tie.Need-same-length
+same-length c = search needs
+
+returns-2 : tie.Need-returns-2
+returns-2 c =
+    let a = c .before .before .before .before .before .before .before .before .args in
+    λ d C e E j. apply-differs (a .proof .now) (a .ws .now) (a .at) (a .next) (a .n) (a .m) (a .end) d C e E j (c .before .same .result) (c .if2 .taken) (c .before .same .ensures .1)
+
+mul-fill-into : tie.Need-mul-fill-into
+mul-fill-into c = let z = sizes (c .before .before .before .before .before .before .before .before .before) in omega arith
+
+sub-fill-into : tie.Need-sub-fill-into
+sub-fill-into c = search needs
+
+part-fill-into-start : tie.Need-part-fill-into-start
+part-fill-into-start c = search needs
+
+part-fill-into-end : tie.Need-part-fill-into-end
+part-fill-into-end c = let z = sizes (c .before .before .before .before .before .before .before .before .before) in omega (arith, z .argument)
+
+slice-aggregate-fill-into : tie.Need-slice-aggregate-fill-into
+slice-aggregate-fill-into c = search needs
+
+fill-into-requires : tie.Need-fill-into-requires
+fill-into-requires c κs =
+    let s = c .before .before .before .before .before .before .before .before .before .before .before in
+    let a = s .args in
+    let p = s .pre in
+    let z = sizes s in
+    let q = agree (c .before .before .before) in
+    let i = argument-is (a .proof .now) (a .ws .now) (a .at) (a .next) (a .n) (a .m) (a .end) (p .d) (p .C) (p .e) (p .E) (p .applies) q in
+    let l = size-is _ (p .e) i in
+    (omega arith, record { term = p .C; here = body-at (a .proof .now) (a .ws .now) (a .at) (a .next) (a .n) (a .m) (a .end) (p .d) (p .C) (p .e) (p .E) (p .applies) q; deep = omega (arith, z); filler = p .e; lends = i; short = omega (arith, l, z) })
+
+enum-told : tie.Need-enum-told
+enum-told c = search needs
+
+enum-known-done : tie.Need-enum-known-done
+enum-known-done c = search needs
+
+slice-aggregate-copy : tie.Need-slice-aggregate-copy
+slice-aggregate-copy c = search needs
+
+copy-requires : tie.Need-copy-requires
+copy-requires c κs =
+    let s = c .before .before .before .before .before .before .before .before .before .before .before .before .before .before .before .before .before .before in
+    let p = s .pre in
+    let f = filled (c .before .before .before .before .before .before) (p .d) (p .C) (p .e) (p .E) (p .applies) in
+    let was = done-is (p .C) (fillAt 0 (p .e) (p .C)) (1 + s .args .m) 0 _ _ _ _ (f .answer) (c .before .before .before .done .given .1) in
+    let w : c .before .before .before .done .given .0 .1 .0 ≤ most-type-words = was .fits in
+    let k = c .before .before .before .before .before .before .fill-into .kept .1 .1 .1 .1 .0 in
+    let z = sizes s in
+    (omega (arith, w, k), omega (arith, w, z))
+
+same-length-2 : tie.Need-same-length-2
+same-length-2 c = search needs
+
+returns-3 : tie.Need-returns-3
+returns-3 c =
+    let a = c .before .before .before .before .before .before .before .before .before .before .before .before .before .before .before .args in
+    λ d C e E j. apply-over (a .proof .now) (a .ws .now) (a .at) (a .next) (a .n) (a .m) (a .end) d C e E j (agree (c .before .before .before .before .before .before .before)) _ _ _ refl (filled (c .before .before .before) d C e E j) (c .enum-told .given .1)
+
+same-length-3 : tie.Need-same-length-3
+same-length-3 c = search needs
+
+returns-4 : tie.Need-returns-4
+returns-4 c =
+    let a = c .before .before .before .before .before .before .before .before .before .before .before .before .before .before .before .before .before .before .before .before .before .args in
+    λ d C e E j. apply-done (a .proof .now) (a .ws .now) (a .at) (a .next) (a .n) (a .m) (a .end) d C e E j (agree (c .before .before .before .before .before .before .before .before .before .before .before .before .before)) _ _ _ refl (filled (c .before .before .before .before .before .before .before .before .before) d C e E j) _ _ (c .before .before .before .before .before .before .done .given .0 .1 .0) (c .before .before .before .before .before .before .done .given .1) (c .before .before .copy .ensures)
+
+pub apply-spec : {M : Type 1} → statement M
+apply-spec =
+    tie.close
+    (tie.spec
+    add-body
+    returns
+    sub-same
+    part-same-start
+    part-same-end
+    add-same
+    mul-same
+    sub-same-2
+    part-same-start-2
+    part-same-end-2
+    same-requires
+    same-length
+    returns-2
+    mul-fill-into
+    sub-fill-into
+    part-fill-into-start
+    part-fill-into-end
+    slice-aggregate-fill-into
+    fill-into-requires
+    enum-told
+    enum-known-done
+    slice-aggregate-copy
+    copy-requires
+    same-length-2
+    returns-3
+    same-length-3
+    returns-4)

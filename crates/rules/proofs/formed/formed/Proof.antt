@@ -1,0 +1,165 @@
+use Prim.Native.Nat.{_<_}
+use native.Mathlib.Omega.{arith}
+use mathlib.Core.Bool.{false}
+use mathlib.Core.Path.{_≡_, refl}
+use lib.ListN.{length, getD}
+use lib.Dec.{eqb}
+use borrow.Author.Needs.{needs}
+use Rattle.logic.specs.Infer.{same}
+use Rattle.logic.specs.Term.{propA, kindPA, lamO, appO, retO, bindO, Term, P, KindP, opWord, size}
+use Rattle.words.specs.Typed.{TypeAt}
+use Rattle.words.proofs.Types.{at-type, type-within}
+use Rattle.rules.proofs.Formings.{formed-app, formed-bind, formed-lam, formed-ret, appliable, bindable, pairable, formed-prop, formed-no-says, formed-kind, formed-no-pi}
+use Rattle.rules.proofs.formed.formed.Statement.{statement}
+use Rattle.rules.proofs.formed.formed.Tie as tie
+
+within : (s : tie.Start) → s .args .at < length (s .args .proof .now)
+within s = type-within (at-type (s .pre .forms .here))
+
+-- the word is that of a Says or a Pi
+others : (c : tie.Else4) → (eqb (getD (c .before .before .before .before .before .before .before .args .proof .now) (c .before .before .before .before .before .before .before .args .at) 0) (opWord appO) ≡ false) × (eqb (getD (c .before .before .before .before .before .before .before .args .proof .now) (c .before .before .before .before .before .before .before .args .at) 0) (opWord bindO) ≡ false) × (eqb (getD (c .before .before .before .before .before .before .before .args .proof .now) (c .before .before .before .before .before .before .before .args .at) 0) (opWord lamO) ≡ false) × (eqb (getD (c .before .before .before .before .before .before .before .args .proof .now) (c .before .before .before .before .before .before .before .args .at) 0) (opWord retO) ≡ false)
+others c = (c .before .before .before .if1 .left, c .before .before .if2 .left, c .before .if3 .left, c .if4 .left)
+
+-- what the tests say, of any type that stands there
+is-prop : (c : tie.After-front-is) (B : Term) → TypeAt (c .before .before .before .before .before .before .before .before .before .args .ws .now) 0 B → c .before .before .before .before .before .before .before .before .before .args .m ≡ size B → c .front-is .result ≡ same B P
+is-prop c B h s = c .front-is .ensures B propA h s refl tt
+
+is-kind : (c : tie.After-front-is2) (B : Term) → TypeAt (c .before .before .before .before .before .before .before .before .before .before .before .before .before .args .ws .now) 0 B → c .before .before .before .before .before .before .before .before .before .before .before .before .before .args .m ≡ size B → c .front-is2 .result ≡ same B KindP
+is-kind c B h s = c .front-is2 .ensures B kindPA h s refl tt
+
+mul-word : tie.Need-mul-word
+mul-word c = let z = within (c .before .before) in omega (arith, c .before .before .pre .short)
+
+shared-slice-read-word : tie.Need-shared-slice-read-word
+shared-slice-read-word c = within (c .before .before .before)
+
+mul-is-app : tie.Need-mul-is-app
+mul-is-app c = search needs
+
+apply-requires : tie.Need-apply-requires
+apply-requires c κs = let s = c .before .before .before .before .before in let a = s .args in appliable (a .proof .now) (a .ws .now) (a .used) (a .at) (a .next) (a .n) (a .m) (a .end) (s .pre) (c .before .if1 .taken)
+
+same-length : tie.Need-same-length
+same-length c = search needs
+
+returns : tie.Need-returns
+returns c = let a = c .before .before .before .before .before .before .before .before .args in formed-app (a .proof .now) (a .ws .now) (a .used) (a .at) (a .next) (a .n) (a .m) (a .end) _ _ (c .before .before .before .before .if1 .taken) (c .before .before .apply .ensures)
+
+mul-is-bind : tie.Need-mul-is-bind
+mul-is-bind c = search needs
+
+bind-requires : tie.Need-bind-requires
+bind-requires c κs = let s = c .before .before .before .before .before .before in let a = s .args in bindable (a .proof .now) (a .ws .now) (a .used) (a .at) (a .next) (a .n) (a .m) (a .end) (s .pre) (c .before .if2 .taken)
+
+same-length-2 : tie.Need-same-length-2
+same-length-2 c = search needs
+
+returns-2 : tie.Need-returns-2
+returns-2 c = let a = c .before .before .before .before .before .before .before .before .before .args in formed-bind (a .proof .now) (a .ws .now) (a .used) (a .at) (a .next) (a .n) (a .m) (a .end) _ _ (c .before .before .before .before .if2 .taken) (c .before .before .bind .ensures)
+
+mul-is-lam : tie.Need-mul-is-lam
+mul-is-lam c = search needs
+
+mul-pair : tie.Need-mul-pair
+mul-pair c = search needs
+
+pair-requires : tie.Need-pair-requires
+pair-requires c κs = let s = c .before .before .before .before .before .before .before in let a = s .args in pairable (a .proof .now) (a .ws .now) (a .used) (a .at) (a .next) (a .n) (a .m) (a .end) (s .pre) lamO refl (c .before .if3 .taken)
+
+same-length-3 : tie.Need-same-length-3
+same-length-3 c = search needs
+
+returns-3 : tie.Need-returns-3
+returns-3 c = let a = c .before .before .before .before .before .before .before .before .before .before .args in formed-lam (a .proof .now) (a .ws .now) (a .used) (a .at) (a .next) (a .n) (a .m) (a .end) _ _ (c .before .before .before .before .if3 .taken) (c .before .before .pair .ensures)
+
+mul-is-ret : tie.Need-mul-is-ret
+mul-is-ret c = search needs
+
+mul-pair-2 : tie.Need-mul-pair-2
+mul-pair-2 c = search needs
+
+pair-requires-2 : tie.Need-pair-requires-2
+pair-requires-2 c κs = let s = c .before .before .before .before .before .before .before .before in let a = s .args in pairable (a .proof .now) (a .ws .now) (a .used) (a .at) (a .next) (a .n) (a .m) (a .end) (s .pre) retO refl (c .before .if4 .taken)
+
+same-length-4 : tie.Need-same-length-4
+same-length-4 c = search needs
+
+returns-4 : tie.Need-returns-4
+returns-4 c = let a = c .before .before .before .before .before .before .before .before .before .before .before .args in formed-ret (a .proof .now) (a .ws .now) (a .used) (a .at) (a .next) (a .n) (a .m) (a .end) _ _ (c .before .before .before .before .if4 .taken) (c .before .before .pair2 .ensures)
+
+mul-front-is : tie.Need-mul-front-is
+mul-front-is c = search needs
+
+front-is-requires : tie.Need-front-is-requires
+front-is-requires c κs = search needs
+
+same-length-5 : tie.Need-same-length-5
+same-length-5 c = search needs
+
+returns-5 : tie.Need-returns-5
+returns-5 c = let a = c .before .before .before .before .before .before .before .before .before .before .args in formed-prop (a .proof .now) (a .ws .now) (a .used) (a .at) (a .next) (a .n) (a .m) (a .end) (others (c .before .before .before)) (c .before .front-is .result) (is-prop (c .before)) (c .if5 .taken)
+
+mul-is-says : tie.Need-mul-is-says
+mul-is-says c = search needs
+
+same-length-6 : tie.Need-same-length-6
+same-length-6 c = search needs
+
+returns-6 : tie.Need-returns-6
+returns-6 c = let a = c .before .before .before .before .before .before .before .before .before .before .before .args in formed-no-says (a .proof .now) (a .ws .now) (a .used) (a .at) (a .next) (a .n) (a .m) (a .end) (others (c .before .before .before .before)) (c .before .before .front-is .result) (is-prop (c .before .before)) (c .before .if5 .left) (c .if6 .taken)
+
+mul-front-is-2 : tie.Need-mul-front-is-2
+mul-front-is-2 c = search needs
+
+front-is-requires-2 : tie.Need-front-is-requires-2
+front-is-requires-2 c κs = search needs
+
+same-length-7 : tie.Need-same-length-7
+same-length-7 c = search needs
+
+returns-7 : tie.Need-returns-7
+returns-7 c = let a = c .before .before .before .before .before .before .before .before .before .before .before .before .before .before .args in formed-kind (a .proof .now) (a .ws .now) (a .used) (a .at) (a .next) (a .n) (a .m) (a .end) (others (c .before .before .before .before .before .before .before)) (c .before .before .before .before .before .front-is .result) (is-prop (c .before .before .before .before .before)) (c .before .before .before .before .if5 .left) (c .before .before .before .if6 .left) (c .before .front-is2 .result) (is-kind (c .before)) (c .if7 .taken)
+
+same-length-8 : tie.Need-same-length-8
+same-length-8 c = search needs
+
+returns-8 : tie.Need-returns-8
+returns-8 c = let a = c .before .before .before .before .before .before .before .before .before .before .before .before .before .before .args in formed-no-pi (a .proof .now) (a .ws .now) (a .used) (a .at) (a .next) (a .n) (a .m) (a .end) (others (c .before .before .before .before .before .before .before)) (c .before .before .before .before .before .front-is .result) (is-prop (c .before .before .before .before .before)) (c .before .before .before .before .if5 .left) (c .before .before .before .if6 .left) (c .before .front-is2 .result) (is-kind (c .before)) (c .if7 .left)
+
+pub formed-spec : {M : Type 1} → statement M
+formed-spec =
+    tie.close
+    (tie.spec
+    mul-word
+    shared-slice-read-word
+    mul-is-app
+    apply-requires
+    same-length
+    returns
+    mul-is-bind
+    bind-requires
+    same-length-2
+    returns-2
+    mul-is-lam
+    mul-pair
+    pair-requires
+    same-length-3
+    returns-3
+    mul-is-ret
+    mul-pair-2
+    pair-requires-2
+    same-length-4
+    returns-4
+    mul-front-is
+    front-is-requires
+    same-length-5
+    returns-5
+    mul-is-says
+    same-length-6
+    returns-6
+    mul-front-is-2
+    front-is-requires-2
+    same-length-7
+    returns-7
+    same-length-8
+    returns-8)

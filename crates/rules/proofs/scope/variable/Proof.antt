@@ -1,0 +1,189 @@
+use Rattle.rules.proofs.Variables.{picked-true, picked-false, picked-length, Entry, entry-of, variable-unbound, variable-long, looked-up, variable-found}
+use Rattle.rules.specs.Scope.{scope-words, Binders}
+use Rattle.words.proofs.Signed.{add-fits, raw-is}
+use Rattle.words.proofs.Places.{at-end, is-at}
+use Rattle.words.specs.Place.{Is}
+use Rattle.logic.specs.Term.{Term}
+use Rattle.logic.specs.Result.{pick}
+use mir.Syntax.{w32}
+use mir.Val.{toZ, ofZ}
+use lib.IntN.{pos, _+ℤ_}
+use lib.Dec.{ltb}
+use lib.ListN.{length, getD}
+use mathlib.Core.List.{List}
+use mathlib.Core.Logic.{⊎-elim}
+use mathlib.Core.Path.{_≡_, ap, _∙_}
+use native.Mathlib.Numerals.{add-one}
+use Prim.Native.Nat.{suc, _+_, _-_}
+use native.Mathlib.Omega.{arith}
+use borrow.Author.Needs.{needs}
+use Rattle.rules.proofs.scope.variable.Statement.{statement}
+use Rattle.rules.proofs.scope.variable.Tie as tie
+
+-- the entry that was found, of any binders whose words are kept, and of those that `requires` brought
+entry-for : (c : tie.Else1) (Γ : List Term) → Binders (c .before .before .before .before .before .args .proof .now) (scope-words (c .before .before .before .before .before .args .floor) (c .before .before .before .before .before .args .used) (c .before .before .before .before .before .args .ws .now)) Γ → Entry (c .before .before .before .before .before .args .proof .now) (c .before .before .before .before .before .args .ws .now) (c .before .binder .result) (c .before .before .before .before .before .args .n) Γ
+entry-for c Γ b =
+    let s = c .before .before .before .before .before in
+    entry-of (omega (arith, s .pre .room)) (c .if1 .left) (c .before .binder .ensures (s .args .proof .now) Γ b)
+
+abbrev entry : (c : tie.Else1) → Entry (c .before .before .before .before .before .args .proof .now) (c .before .before .before .before .before .args .ws .now) (c .before .binder .result) (c .before .before .before .before .before .args .n) (c .before .before .before .before .before .pre .Γ)
+entry c = entry-for c (c .before .before .before .before .before .pre .Γ) (c .before .before .before .before .before .pre .binders)
+
+-- where the type starts
+from-is : (c : tie.Joined3) → c .if3 .from ≡ pick (ltb 3 (getD (c .before .before .before .before .before .before .before .before .before .before .args .ws .now) (length (c .before .before .before .before .before .before .before .before .before .before .args .ws .now) - c .before .before .before .before .before .before .binder .result) 0)) (length (c .before .before .before .before .before .before .before .before .before .before .args .ws .now) - c .before .before .before .before .before .before .binder .result + (getD (c .before .before .before .before .before .before .before .before .before .before .args .ws .now) (length (c .before .before .before .before .before .before .before .before .before .before .args .ws .now) - c .before .before .before .before .before .before .binder .result) 0 - getD (c .before .before .before .before .before .before .before .before .before .before .args .ws .now) (length (c .before .before .before .before .before .before .before .before .before .before .args .ws .now) - c .before .before .before .before .before .before .binder .result + 2) 0)) (getD (c .before .before .before .before .before .before .before .before .before .before .args .ws .now) (length (c .before .before .before .before .before .before .before .before .before .before .args .ws .now) - c .before .before .before .before .before .before .binder .result + 1) 0)
+from-is c = ⊎-elim (λ w. picked-true _ _ _ (w .0 .taken) (w .1)) (λ w. picked-false _ _ _ (w .0 .left) (w .1)) (c .if3 .came)
+
+-- the part that was looked up is the type's words
+part : (c : tie.After-lookup) (Γ : List Term) (b : Binders (c .before .before .before .before .before .before .before .before .before .before .before .before .before .args .proof .now) (scope-words (c .before .before .before .before .before .before .before .before .before .before .before .before .before .args .floor) (c .before .before .before .before .before .before .before .before .before .before .before .before .before .args .used) (c .before .before .before .before .before .before .before .before .before .before .before .before .before .args .ws .now)) Γ) → Is (c .lookup .result .now) (entry-for (c .before .before .before .before .before .before .before .before) Γ b .type)
+part c Γ b =
+    let s = c .before .before .before .before .before .before .before .before .before .before .before .before .before in
+    looked-up (s .args .at) (entry-for (c .before .before .before .before .before .before .before .before) Γ b) (from-is (c .before .before .before)) (c .lookup .ensures)
+
+-- an i32 that is handed on is read back from its bits
+amount : (s : tie.Start) → toZ w32 (ofZ w32 (toZ w32 (s .args .n) +ℤ pos 1)) ≡ pos (suc (s .args .n))
+amount s = raw-is (s .args .n) (pos 1) (s .pre .number) (omega arith) ∙ ap pos (add-one (s .args .n))
+
+binder-requires : tie.Need-binder-requires
+binder-requires c κs = let s = c .before .before .before in record { proof = s .args .proof .now; Γ = s .pre .Γ; binders = s .pre .binders; below = s .pre .below; inside = omega (arith, s .pre .room) }
+
+same-length : tie.Need-same-length
+same-length c = search needs
+
+returns : tie.Need-returns
+returns c =
+    let s = c .before .before .before .before .before in
+    λ Γ b r. variable-unbound (s .args .at) (c .if1 .taken) (c .before .binder .ensures (s .args .proof .now) Γ b)
+
+sub-head : tie.Need-sub-head
+sub-head c = let e = entry c in omega (arith, e .fits)
+
+mul-total : tie.Need-mul-total
+mul-total c = search needs
+
+slice-read-total : tie.Need-slice-read-total
+slice-read-total c = let e = entry (c .before) in omega (arith, e .fits, e .head, e .inside)
+
+cast-total : tie.Need-cast-total
+cast-total c = let s = c .before .before .before .before .before .before in omega (arith, c .slice-known2 .given (length (s .args .ws .now) - c .before .before .binder .result))
+
+add-start : tie.Need-add-start
+add-start c = search needs
+
+mul-start : tie.Need-mul-start
+mul-start c = search needs
+
+slice-read-start : tie.Need-slice-read-start
+slice-read-start c = let e = entry (c .before .before) in omega (arith, e .fits, e .head, e .inside)
+
+cast-start : tie.Need-cast-start
+cast-start c = let s = c .before .before .before .before .before .before .before in omega (arith, c .slice-known3 .given (length (s .args .ws .now) - c .before .before .before .binder .result + 1))
+
+add-size : tie.Need-add-size
+add-size c = search needs
+
+mul-size : tie.Need-mul-size
+mul-size c = search needs
+
+slice-read-size : tie.Need-slice-read-size
+slice-read-size c = let e = entry (c .before .before .before) in omega (arith, e .fits, e .head, e .inside)
+
+cast-size : tie.Need-cast-size
+cast-size c = let s = c .before .before .before .before .before .before .before .before in omega (arith, c .slice-known4 .given (length (s .args .ws .now) - c .before .before .before .before .binder .result + 2))
+
+same-length-2 : tie.Need-same-length-2
+same-length-2 c = search needs
+
+returns-2 : tie.Need-returns-2
+returns-2 c =
+    let s = c .before .before .before .before .before .before .before .before .before in
+    λ Γ b r. variable-long (s .args .at) (entry-for (c .before .before .before .before) Γ b) (c .if2 .taken)
+
+sub-from : tie.Need-sub-from
+sub-from c = let e = entry (c .before .before .before .before .before) in omega (arith, e .within (c .if3 .taken))
+
+add-from : tie.Need-add-from
+add-from c = let e = entry (c .before .before .before .before .before) in omega (arith, e .fits, e .inside)
+
+add-lookup : tie.Need-add-lookup
+add-lookup c =
+    let s = c .before .before .before .before .before .before .before .before .before .before .before .before in
+    let e = entry (c .before .before .before .before .before .before .before) in
+    let f = from-is (c .before .before) in
+    let l = picked-length (ltb 3 (getD (s .args .ws .now) (length (s .args .ws .now) - c .before .before .before .before .before .before .before .before .binder .result) 0)) (s .args .ws .now) (s .args .proof .now) in
+    omega (arith, s .good, at-end (e .here), e .type-words)
+
+lookup-requires : tie.Need-lookup-requires
+lookup-requires c κs = let e = entry (c .before .before .before .before .before .before .before) in let f = from-is (c .before .before) in (omega arith, omega (arith, at-end (e .here), e .type-words))
+
+cast-shift-into : tie.Need-cast-shift-into
+cast-shift-into c = search needs
+
+add-shift-into : tie.Need-add-shift-into
+add-shift-into c = let s = c .before .before .before .before .before .before .before .before .before .before .before .before .before in add-fits (s .args .n) (pos 1) (s .pre .number) (omega arith)
+
+slice-aggregate-shift-into : tie.Need-slice-aggregate-shift-into
+slice-aggregate-shift-into c = search needs
+
+shift-into-requires : tie.Need-shift-into-requires
+shift-into-requires c κs =
+    let s = c .before .before .before .before .before .before .before .before .before .before .before .before .before .before in
+    let e = entry (c .before .before .before .before .before .before .before .before .before) in
+    let n = s .pre .number in
+    (omega arith, record { term = e .type; here = is-at (part (c .before) (s .pre .Γ) (s .pre .binders)); fits = omega (arith, e .type-words, c .before .before .before .before .before .if2 .left); deep = omega (arith, e .type-words, c .before .before .before .before .before .if2 .left); near = rw (amount s) (omega arith) })
+
+slice-aggregate-copy : tie.Need-slice-aggregate-copy
+slice-aggregate-copy c = search needs
+
+copy-requires : tie.Need-copy-requires
+copy-requires c κs =
+    let s = c .before .before .before .before .before .before .before .before .before .before .before .before .before .before .before .before .before .before in
+    let e = entry (c .before .before .before .before .before .before .before .before .before .before .before .before .before) in
+    let k = c .before .before .before .shift-into .ensures (e .type) (is-at (part (c .before .before .before .before .before) (s .pre .Γ) (s .pre .binders))) .count in
+    let l = c .before .before .before .shift-into .kept .1 .1 .1 .1 .0 in
+    omega (arith, s .pre .room, e .type-words, c .before .before .before .before .before .before .before .before .before .if2 .left)
+
+add-t23 : tie.Need-add-t23
+add-t23 c = search needs
+
+same-length-3 : tie.Need-same-length-3
+same-length-3 c = search needs
+
+returns-3 : tie.Need-returns-3
+returns-3 c =
+    let s = c .before .before .before .before .before .before .before .before .before .before .before .before .before .before .before .before .before .before .before .before .before in
+    λ Γ b r. variable-found (s .args .at) (entry-for (c .before .before .before .before .before .before .before .before .before .before .before .before .before .before .before .before) Γ b) (c .before .before .before .before .before .before .before .before .before .before .before .before .if2 .left) (amount s) (part (c .before .before .before .before .before .before .before .before) Γ b) (c .before .before .before .before .before .before .shift-into .ensures) (c .before .before .copy .ensures) r
+
+pub variable-spec : {M : Type 1} → statement M
+variable-spec =
+    tie.close
+    (tie.spec
+    binder-requires
+    same-length
+    returns
+    sub-head
+    mul-total
+    slice-read-total
+    cast-total
+    add-start
+    mul-start
+    slice-read-start
+    cast-start
+    add-size
+    mul-size
+    slice-read-size
+    cast-size
+    same-length-2
+    returns-2
+    sub-from
+    add-from
+    add-lookup
+    lookup-requires
+    cast-shift-into
+    add-shift-into
+    slice-aggregate-shift-into
+    shift-into-requires
+    slice-aggregate-copy
+    copy-requires
+    add-t23
+    same-length-3
+    returns-3)

@@ -1,0 +1,126 @@
+use Prim.Native.Nat.{ℕ, suc, _+_, _-_, _≤_}
+use native.Mathlib.Omega.{arith}
+use mathlib.Core.Path.{_≡_, refl, _∙_}
+use lib.ListN.{length, length-set}
+use borrow.Author.Needs.{needs}
+use Rattle.logic.specs.Infer.{same}
+use Rattle.logic.specs.Limits.{most-words}
+use Rattle.logic.specs.Term.{propA, saysO, Term, P, opWord, size}
+use Rattle.words.proofs.Places.{at-end, size-pos}
+use Rattle.rules.specs.Form.{front-words}
+use Rattle.rules.specs.Results.{Signs}
+use Rattle.rules.proofs.Results.{sign-unlike, sign-long, sign-done}
+use Rattle.rules.proofs.sign.sign.Statement.{statement}
+use Rattle.rules.proofs.sign.sign.Tie as tie
+
+-- the numbers of the Sign that `requires` brought
+record Sizes (len plen at end : ℕ) : Type 0 where
+  some : at + 2 ≤ end
+  inside : end ≤ plen
+  short : plen ≤ most-words
+  room : front-words ≤ len
+
+sizes : (s : tie.Start) → Sizes (length (s .args .ws .now)) (length (s .args .proof .now)) (s .args .at) (s .args .end)
+unfolding size
+sizes s =
+    let p = s .pre in
+    let j = p .signs in
+    let e : s .args .end ≡ s .args .at + suc (size (p .q)) = j .end-is in
+    let h = at-end (j .here) in
+    let k = size-pos (p .q) in
+    record { some = omega arith; inside = omega arith; short = p .short; room = p .room }
+
+-- what the test says, of any Sign that stands there
+fine : (c : tie.After-front-is) (a : ℕ) (q s : Term) → Signs (c .before .before .before .before .args .proof .now) (c .before .before .before .before .args .ws .now) (c .before .before .before .before .args .at) (c .before .before .before .before .args .n) (c .before .before .before .before .args .end) a q s → c .front-is .result ≡ same s P
+fine c a q s j = c .front-is .ensures s propA (j .type) (j .type-words) refl tt
+
+mul-front-is : tie.Need-mul-front-is
+mul-front-is c = search needs
+
+front-is-requires : tie.Need-front-is-requires
+front-is-requires c κs = search needs
+
+same-length : tie.Need-same-length
+same-length c = search needs
+
+returns : tie.Need-returns
+returns c =
+    let a = c .before .before .before .before .before .args in
+    λ x q s j. sign-unlike (a .proof .now) (a .ws .now) (a .at) (a .n) (a .end) x q s j (c .before .front-is .result) (fine (c .before) x q s j) (c .if1 .taken)
+
+sub-words : tie.Need-sub-words
+sub-words c = search needs
+
+add-words : tie.Need-add-words
+add-words c = let z = sizes (c .before .before .before .before .before) in omega arith
+
+same-length-2 : tie.Need-same-length-2
+same-length-2 c = search needs
+
+returns-2 : tie.Need-returns-2
+returns-2 c =
+    let a = c .before .before .before .before .before .before .args in
+    λ x q s j. sign-long (a .proof .now) (a .ws .now) (a .at) (a .n) (a .end) x q s j (c .before .before .front-is .result) (fine (c .before .before) x q s j) (c .before .if1 .left) (c .if2 .taken)
+
+mul-ws : tie.Need-mul-ws
+mul-ws c = search needs
+
+slice-write-ws : tie.Need-slice-write-ws
+slice-write-ws c = search needs
+
+mul-ws-2 : tie.Need-mul-ws-2
+mul-ws-2 c = search needs
+
+mul-ws-3 : tie.Need-mul-ws-3
+mul-ws-3 c = let z = sizes (c .before .before .before .before .before .before) in omega arith
+
+shared-slice-read-ws : tie.Need-shared-slice-read-ws
+shared-slice-read-ws c = let z = sizes (c .before .before .before .before .before .before .before) in omega arith
+
+add-ws : tie.Need-add-ws
+add-ws c = search needs
+
+slice-write-ws-2 : tie.Need-slice-write-ws-2
+slice-write-ws-2 c = let z = sizes (c .before .before .before .before .before .before .before) in let l = length-set (c .before .before .before .before .before .before .before .args .ws .now) 0 (opWord saysO) in omega (arith, l, z)
+
+add-copy : tie.Need-add-copy
+add-copy c = let z = sizes (c .before .before .before .before .before .before .before) in omega arith
+
+sub-copy : tie.Need-sub-copy
+sub-copy c = let z = sizes (c .before .before .before .before .before .before .before) in omega arith
+
+copy-requires : tie.Need-copy-requires
+copy-requires c κs = let z = sizes (c .before .before .before .before .before .before .before .before) in let w = c .before .before .if2 .left in (omega arith, simp length-set (omega (arith, z, w)))
+
+same-length-3 : tie.Need-same-length-3
+same-length-3 c = c .before .before .copy .kept .1 .1 .1 .0 ∙ simp length-set
+
+returns-3 : tie.Need-returns-3
+returns-3 c =
+    let a = c .before .before .before .before .before .before .before .before .before .before .before .args in
+    λ x q s j. sign-done (a .proof .now) (a .ws .now) (a .at) (a .n) (a .end) x q s j (c .before .before .before .before .before .before .before .front-is .result) (fine (c .before .before .before .before .before .before .before) x q s j) (c .before .before .before .before .before .before .if1 .left) _ (c .before .before .before .before .before .if2 .left) (omega (arith, c .before .before .before .before .before .before .before .before .before .before .before .pre .room)) (c .before .before .copy .ensures)
+
+pub sign-spec : {M : Type 1} → statement M
+sign-spec =
+    tie.close
+    (tie.spec
+    mul-front-is
+    front-is-requires
+    same-length
+    returns
+    sub-words
+    add-words
+    same-length-2
+    returns-2
+    mul-ws
+    slice-write-ws
+    mul-ws-2
+    mul-ws-3
+    shared-slice-read-ws
+    add-ws
+    slice-write-ws-2
+    add-copy
+    sub-copy
+    copy-requires
+    same-length-3
+    returns-3)

@@ -1,0 +1,74 @@
+-- The rules of nodes with two children as one rule: the first child, a test on its type, the second child under the rule's binder if any, and the result. proofs/Uniform shows that `infer` is this.
+use Prim.Native.Nat.{ℕ, suc, _+_}
+use mathlib.Core.List.{List, _∷_}
+use lib.Dec.{eqb}
+use lib.ListN.{getElem?}
+use Rattle.logic.specs.Refusals.{unbound-variable, condition-fails}
+use Rattle.logic.specs.Result.{Result, ok, refused, _>>=_, _>>_, known}
+use Rattle.logic.specs.Term.{Atom, Op, saysO, piO, lamO, appO, retO, bindO, Term, atom, var, sign, node, P, N, Name, Says, Pi}
+use Rattle.logic.specs.Move.{raise, lower, fill, occurs}
+use Rattle.logic.specs.Infer.{same, condition, measured, domain, body, proposition, parts, infer-atom}
+
+-- an atom's type
+abbrev pub atom-type : List Term → ℕ → Atom → Result Term
+atom-type Σ at a = infer-atom Σ at a >>= measured at
+
+-- a variable's type
+abbrev pub variable-type : List Term → ℕ → ℕ → Result Term
+variable-type Γ at n = known unbound-variable at (getElem? Γ n) >>= λ A. measured at (raise (suc n) A)
+
+-- a Sign's type, where its proposition q has the type s
+abbrev pub sign-type : ℕ → ℕ → Term → Term → Result Term
+sign-type at n q s = condition at (same s P) >> measured at (Says (Name n) q)
+
+-- the second child of a term
+abbrev pub second : Term → Term
+second (atom a) = atom a
+second (var n) = var n
+second (sign n q) = q
+second (node o a b) = b
+
+abbrev pub first : Term → Term
+first (atom a) = atom a
+first (var n) = var n
+first (sign n q) = q
+first (node o a b) = a
+
+-- the test on the first child a, whose type is A
+unfoldable pub ready : Op → ℕ → Term → Term → Result (Unit {0})
+ready saysO at a A = condition at (same A N)
+ready piO at a A = condition at (domain a A)
+ready lamO at a A = condition at (domain a A)
+ready appO at a A = known condition-fails at (parts piO A) >> ok tt
+ready retO at a A = condition at (same A N)
+ready bindO at a A = known condition-fails at (parts saysO A) >> ok tt
+
+-- the binders in scope of the second child
+abbrev pub within : Op → Term → Term → List Term → List Term
+within saysO a A Γ = Γ
+within piO a A Γ = a ∷ Γ
+within lamO a A Γ = a ∷ Γ
+within appO a A Γ = Γ
+within retO a A Γ = Γ
+within bindO a A Γ = second A ∷ Γ
+
+-- the result of Lam and Ret: a node of the first child and the second's type, which is a proposition
+abbrev pub paired : ℕ → Op → Term → Term → Result Term
+paired at o a B = condition at (proposition B) >> measured at (node o a B)
+
+-- the result of an App, whose function has the type Pi d C and whose argument b the type B
+abbrev pub applied : ℕ → Term → Term → Term → Term → Result Term
+applied at d C b B = condition at (same B d) >> measured at (fill C b)
+
+-- the result of a Bind, whose proof is said by a and whose body has the type B
+abbrev pub bound : ℕ → Term → Term → Result Term
+bound at a B = known condition-fails at (parts saysO B) >>= λ r. condition at (same (r .left) (raise 1 a)) >> (condition at (eqb (occurs 0 (r .right)) 0) >> measured at (Says a (lower (r .right))))
+
+-- the node's type, from its children and their types
+unfoldable pub formed : Op → ℕ → (a b A B : Term) → Result Term
+formed saysO at a b A B = condition at (same B P) >> measured at P
+formed piO at a b A B = condition at (body B) >> measured at B
+formed lamO at a b A B = paired at piO a B
+formed appO at a b A B = applied at (first A) (second A) b B
+formed retO at a b A B = paired at saysO a B
+formed bindO at a b A B = bound at (first A) B

@@ -1,0 +1,59 @@
+// The result of an App.
+use crate::derivation::CONDITION_FAILS;
+use crate::derivation::Derivation;
+use crate::derivation::MOST_TYPE_WORDS;
+use crate::derivation::TYPE_TOO_LONG;
+use words::fill::Filled;
+use words::fill::fill_into;
+use words::part::copy;
+use words::part::same;
+ghost use Rattle.logic.specs.Term.{Term};
+ghost use Rattle.rules.specs.Rule.{applied};
+ghost use Rattle.rules.specs.Form.{Formed};
+ghost use Rattle.rules.specs.Results.{Applies, Appliable};
+
+// The function's type is the first n words of the workspace, the argument's type the m after them; the argument stands at `next` in the proof, up to `end`.
+pub fn apply(
+    proof: &[u32],
+    ws: &mut [u32],
+    at: usize,
+    next: usize,
+    n: usize,
+    m: usize,
+    end: usize,
+) -> Derivation
+    requires { ⌜ Appliable (now proof) (now ws) next n m end ⌝ }
+    ensures { λ r. ⌜ ((d C e E : Term) → Applies (now (proof .entry)) (now (ws .entry)) next n m end d C e E → Formed (applied at d C e E) end (now (ws .entry)) (now (ws .exit)) r) ⌝ }
+{
+    // the argument's type is the domain exactly if its words stand there: a list of words begins with one term at most
+    let body = 1 + m;
+    if n <= body {
+        return Derivation::Refused {
+            number: CONDITION_FAILS,
+            place: at,
+        };
+    }
+    let held = &ws[..];
+    let agree = same(&held[1..body], &held[n..n + m]);
+    if !agree {
+        return Derivation::Refused {
+            number: CONDITION_FAILS,
+            place: at,
+        };
+    }
+    let mut filled = [0u32; MOST_TYPE_WORDS];
+    let done = fill_into(&ws[..], body, 0, &proof[next..end], &mut filled, 0);
+    match done {
+        Filled::Over => Derivation::Refused {
+            number: TYPE_TOO_LONG,
+            place: at,
+        },
+        Filled::Done {
+            next: _,
+            end: words,
+        } => {
+            copy(&filled, 0, words, ws, 0);
+            Derivation::Typed { words, end }
+        }
+    }
+}

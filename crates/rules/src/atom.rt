@@ -1,0 +1,90 @@
+// The type of a word that has no children and is no variable.
+use crate::derivation::Derivation;
+use crate::derivation::MOST_TYPE_WORDS;
+use crate::derivation::TYPE_TOO_LONG;
+use crate::derivation::UNKNOWN_CONSTANT;
+use logic::word::PAYLOADS;
+use logic::word::TAG_CONSTANT;
+use logic::word::TAG_KIND_P;
+use logic::word::TAG_KIND_T;
+use logic::word::TAG_NAME;
+use logic::word::TAG_PRIN;
+use logic::word::TAG_PROP;
+use logic::word::TAG_STRING;
+use logic::word::TAG_TEXT;
+use logic::word::TAG_TYPE;
+use words::part::copy;
+ghost use mathlib.Core.Path.{_≡_};
+ghost use mathlib.Core.List.{List};
+ghost use mathlib.Core.Option.{some};
+ghost use Prim.Native.Nat.{_+_, _/_};
+ghost use Rattle.logic.specs.Limits.{payloads};
+ghost use Rattle.logic.specs.Term.{Atom, constA, Term, atomWord};
+ghost use Rattle.logic.specs.Reading.{PlainAtom};
+ghost use Rattle.rules.specs.Rule.{atom-type};
+ghost use Rattle.rules.specs.Scope.{Declared};
+ghost use Rattle.rules.specs.Form.{Formed};
+ghost use Rattle.rules.specs.Atoms.{sort-of, Constants};
+
+// The word of the type of an atom that is no constant, by the atom's tag.
+fn sort(tag: u32) -> u32
+    ensures { λ r. ⌜ ((a b : Atom) → PlainAtom a → tag ≡ atomWord a / payloads → sort-of a ≡ some b → r ≡ atomWord b) ⌝ }
+{
+    let prop = tag == TAG_PROP;
+    if prop {
+        return TAG_KIND_P * PAYLOADS;
+    }
+    let basic = tag == TAG_TYPE;
+    if basic {
+        return TAG_KIND_T * PAYLOADS;
+    }
+    let text = tag == TAG_TEXT;
+    if text {
+        return TAG_STRING * PAYLOADS;
+    }
+    let name = tag == TAG_NAME;
+    if name {
+        return TAG_PRIN * PAYLOADS;
+    }
+    // S and N
+    TAG_TYPE * PAYLOADS
+}
+
+// A constant's type is copied from the signature: the table says where it stands, behind its length word.
+fn constant(sig: &[u32], table: &[u32], ws: &mut [u32], n: usize, at: usize) -> Derivation
+    requires { ⌜ Constants (now sig) (now table) (now ws) at ⌝ }
+    ensures { λ r. ⌜ ((Σ : List Term) → Declared (now (sig .entry)) (now (table .entry)) Σ → Formed (atom-type Σ at (constA n)) (at + 1) (now (ws .entry)) (now (ws .exit)) r) ⌝ }
+{
+    if table.len() <= n {
+        return Derivation::Refused {
+            number: UNKNOWN_CONSTANT,
+            place: at,
+        };
+    }
+    let start = table[n] as usize;
+    let words = sig[start - 1] as usize;
+    if MOST_TYPE_WORDS < words {
+        return Derivation::Refused {
+            number: TYPE_TOO_LONG,
+            place: at,
+        };
+    }
+    copy(sig, start, words, ws, 0);
+    Derivation::Typed { words, end: at + 1 }
+}
+
+// The type of an atom's word.
+pub fn atom(sig: &[u32], table: &[u32], ws: &mut [u32], word: u32, at: usize) -> Derivation
+    requires { ⌜ Constants (now sig) (now table) (now ws) at ⌝ }
+    ensures { λ r. ⌜ ((Σ : List Term) → (a : Atom) → Declared (now (sig .entry)) (now (table .entry)) Σ → word ≡ atomWord a → PlainAtom a → Formed (atom-type Σ at a) (at + 1) (now (ws .entry)) (now (ws .exit)) r) ⌝ }
+{
+    let tag = word / PAYLOADS;
+    if tag == TAG_CONSTANT {
+        return constant(sig, table, ws, (word % PAYLOADS) as usize, at);
+    }
+    ws[0] = sort(tag);
+    Derivation::Typed {
+        words: 1,
+        end: at + 1,
+    }
+}

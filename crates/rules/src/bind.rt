@@ -1,0 +1,51 @@
+// The result of a Bind.
+use crate::derivation::CONDITION_FAILS;
+use crate::derivation::Derivation;
+use crate::scope::ENTRY_HEAD;
+use words::occurrence::Occurrence;
+use words::occurrence::occurs;
+use words::part::same;
+use words::shift::shift_within;
+ghost use Rattle.logic.specs.Term.{Term};
+ghost use Rattle.rules.specs.Rule.{bound};
+ghost use Rattle.rules.specs.Form.{Formed};
+ghost use Rattle.rules.specs.Results.{Binds, Bindable};
+
+// The body's type is the first m words of the workspace; the proof's type Says p q is kept in the last entry of the `used` words at the end, with p raised.
+pub fn bind(ws: &mut [u32], used: usize, at: usize, m: usize, end: usize) -> Derivation
+    requires { ⌜ Bindable (now ws) used m ⌝ }
+    ensures { λ r. ⌜ ((p q B : Term) → Binds (now (ws .entry)) used m p q B → Formed (bound at p B) end (now (ws .entry)) (now (ws .exit)) r) ⌝ }
+{
+    let head = ws.len() - used;
+    let total = ws[head] as usize;
+    let size = ws[head + 2] as usize;
+    // the word Says and the principal's words
+    let said = total - ENTRY_HEAD - size;
+    if m <= said {
+        return Derivation::Refused {
+            number: CONDITION_FAILS,
+            place: at,
+        };
+    }
+    let held = &ws[..];
+    let start = head + ENTRY_HEAD;
+    let agree = same(&held[..said], &held[start..start + said]);
+    if !agree {
+        return Derivation::Refused {
+            number: CONDITION_FAILS,
+            place: at,
+        };
+    }
+    let escape = occurs(&ws[..], said, 0);
+    match escape {
+        Occurrence::Present => Derivation::Refused {
+            number: CONDITION_FAILS,
+            place: at,
+        },
+        Occurrence::Absent(_) => {
+            // the principal was raised, so the whole type is lowered
+            let words = shift_within(ws, 0, 0, -1);
+            Derivation::Typed { words, end }
+        }
+    }
+}

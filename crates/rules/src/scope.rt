@@ -1,0 +1,78 @@
+// The binders in scope, whose entries are kept at the end of the workspace, the nearest first.
+use crate::derivation::Derivation;
+use crate::derivation::MOST_TYPE_WORDS;
+use crate::derivation::TYPE_TOO_LONG;
+use crate::derivation::UNBOUND_VARIABLE;
+use words::lookup::lookup;
+use words::part::copy;
+use words::shift::shift_into;
+ghost use Prim.Native.Nat.{ℕ, _+_, _<_};
+ghost use mathlib.Core.List.{List};
+ghost use Rattle.logic.specs.Term.{Term};
+ghost use Rattle.rules.specs.Rule.{variable-type};
+ghost use Rattle.rules.specs.Scope.{scope-words, Binders};
+ghost use Rattle.rules.specs.Form.{Formed};
+ghost use Rattle.rules.specs.Variable.{Walkable, Found, InScope, Raises};
+
+// The words of an entry before its own: how many it has, where the type stands in the proof, and the type's words.
+pub const ENTRY_HEAD: usize = 3;
+
+// How many words are kept from the entry of variable n on, or `floor` where there is no such binder.
+fn binder(ws: &[u32], floor: usize, used: usize, n: u32) -> usize
+    requires { ⌜ Walkable (now ws) floor used ⌝ }
+    ensures { λ r. ⌜ ((proof : List ℕ) → (Γ : List Term) → Binders proof (scope-words floor used (now (ws .entry))) Γ → Found proof (now (ws .entry)) floor used n Γ r) ⌝ }
+{
+    let mut kept = used;
+    let mut left = n;
+    while floor < kept {
+        if left == 0 {
+            return kept;
+        }
+        kept = kept - ws[ws.len() - kept] as usize;
+        left = left - 1;
+    }
+    floor
+}
+
+// The type of variable n, raised to where the variable stands, at the front of the workspace.
+pub fn variable(
+    proof: &[u32],
+    ws: &mut [u32],
+    floor: usize,
+    used: usize,
+    n: u32,
+    at: usize,
+) -> Derivation
+    requires { ⌜ InScope (now proof) (now ws) floor used n at ⌝ }
+    ensures { λ r. ⌜ ((Γ : List Term) → Binders (now (proof .entry)) (scope-words floor used (now (ws .entry))) Γ → Raises Γ n → Formed (variable-type Γ at n) (at + 1) (now (ws .entry)) (now (ws .exit)) r) ⌝ }
+{
+    let kept = binder(&ws[..], floor, used, n);
+    if kept == floor {
+        return Derivation::Refused {
+            number: UNBOUND_VARIABLE,
+            place: at,
+        };
+    }
+    let head = ws.len() - kept;
+    let total = ws[head] as usize;
+    let start = ws[head + 1] as usize;
+    let size = ws[head + 2] as usize;
+    if MOST_TYPE_WORDS < size {
+        return Derivation::Refused {
+            number: TYPE_TOO_LONG,
+            place: at,
+        };
+    }
+    let in_workspace = ENTRY_HEAD < total;
+    let from = if in_workspace {
+        head + (total - size)
+    } else {
+        start
+    };
+    // "A binder's type stands either in the proof's words or in the workspace"
+    let part = lookup(proof, &ws[..], in_workspace, from, from + size);
+    let mut raised = [0u32; MOST_TYPE_WORDS];
+    let words = shift_into(part, 0, 0, n as i32 + 1, &mut raised, 0);
+    copy(&raised, 0, words, ws, 0);
+    Derivation::Typed { words, end: at + 1 }
+}

@@ -1,0 +1,42 @@
+// The result of a Sign.
+use crate::derivation::CONDITION_FAILS;
+use crate::derivation::Derivation;
+use crate::derivation::MOST_TYPE_WORDS;
+use crate::derivation::TYPE_TOO_LONG;
+use crate::front::front_is;
+use logic::word::PAYLOADS;
+use logic::word::TAG_NAME;
+use logic::word::TAG_PROP;
+use logic::word::TAG_SAYS;
+use words::part::copy;
+ghost use Prim.Native.Nat.{ℕ};
+ghost use Rattle.logic.specs.Term.{Term};
+ghost use Rattle.rules.specs.Rule.{sign-type};
+ghost use Rattle.rules.specs.Form.{Formed};
+ghost use Rattle.rules.specs.Results.{Signs, Signable};
+
+// The Sign stands in the proof at `at`, up to `end`; its proposition's type is the first n words of the workspace.
+pub fn sign(proof: &[u32], ws: &mut [u32], at: usize, n: usize, end: usize) -> Derivation
+    requires { ⌜ Signable (now proof) (now ws) at n end ⌝ }
+    ensures { λ r. ⌜ ((a : ℕ) → (q s : Term) → Signs (now (proof .entry)) (now (ws .entry)) at n end a q s → Formed (sign-type at a q s) end (now (ws .entry)) (now (ws .exit)) r) ⌝ }
+{
+    let fine = front_is(&ws[..], n, TAG_PROP * PAYLOADS);
+    if !fine {
+        return Derivation::Refused {
+            number: CONDITION_FAILS,
+            place: at,
+        };
+    }
+    // Says, the principal and the proposition
+    let words = end - at + 1;
+    if MOST_TYPE_WORDS < words {
+        return Derivation::Refused {
+            number: TYPE_TOO_LONG,
+            place: at,
+        };
+    }
+    ws[0] = TAG_SAYS * PAYLOADS;
+    ws[1] = TAG_NAME * PAYLOADS + proof[at] % PAYLOADS;
+    copy(proof, at + 1, words - 2, ws, 2);
+    Derivation::Typed { words, end }
+}

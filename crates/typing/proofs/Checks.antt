@@ -1,0 +1,106 @@
+-- Tests 6 to 12 on a term's words, one after the other.
+use Prim.Native.Nat.{ℕ, _+_, _≤_, _<_}
+use native.Mathlib.Omega.{arith}
+use mathlib.Core.Path.{_≡_, refl, sym, ap, subst, _∙_}
+use mathlib.Core.Bool.{Bool, true, false, _&&_}
+use mathlib.Core.List.{List, []}
+use mathlib.Core.Option.{Option, some, none}
+use lib.Dec.{leb}
+use lib.ListN.{length}
+use borrow.Author.Tests.{le-leb, lt-leb}
+use Rattle.logic.specs.Limits.{most-nesting}
+use Rattle.logic.specs.Refusals.{term-length, malformed, nesting as nesting-number}
+use Rattle.logic.specs.Result.{Result, ok, refused, _>>=_, _>>_, require, nowhere}
+use Rattle.logic.specs.Term.{Term, size}
+use Rattle.logic.specs.Scope.{no-binder}
+use Rattle.logic.specs.Infer.{infer}
+use Rattle.logic.specs.Reading.{read-whole, too-deep, depth}
+use Rattle.logic.specs.Check.{term-of}
+use Rattle.logic.proofs.Basics.{clash}
+use Rattle.logic.proofs.Results.{bind-is, pass, true-both}
+use Rattle.logic.proofs.Searches.{too-deep-right}
+use Rattle.words.specs.Place.{Is}
+use Rattle.words.specs.Parsing.{whole}
+use Rattle.words.specs.Nesting.{nesting}
+use Rattle.words.specs.declared.read.Parse.{Parse}
+use Rattle.words.specs.declared.read.Parse.the-variants.{End, Bad}
+use Rattle.words.specs.declared.nesting.Nesting.{Nesting}
+use Rattle.words.specs.declared.nesting.Nesting.the-variants.{Within, Past}
+use Rattle.words.proofs.Places.{is-at, size-is}
+use Rattle.words.proofs.Parses.{whole-term, whole-malformed}
+use Rattle.words.proofs.Nestings.{past-is, within-is}
+use Rattle.rules.specs.Scope.{Binders, no-binder as no-entries}
+use Rattle.rules.specs.Form.{answer-of}
+use Rattle.typing.specs.Derive.{Derived, Ready}
+use Rattle.typing.specs.Check.{Constants-of, typed-term, Judged}
+use Rattle.rules.specs.declared.derivation.Derivation.{Derivation}
+use Rattle.rules.specs.declared.derivation.Derivation.the-variants.{Typed, Refused}
+
+judged-refused : (o : Result Term) (end : ℕ) (new : List ℕ) (m p : ℕ) → o ≡ refused m p → Judged o end new (Refused m p)
+judged-refused o end new m p e = subst (λ (x : Result Term). Judged x end new (Refused m p)) (sym e) (record { answer = refl; front = tt })
+
+and-false : (a : Bool) → (a && false) ≡ false
+and-false true = refl
+and-false false = refl
+
+require-false : {X : Type 0} (b : Bool) (m p : ℕ) (r : Result X) → b ≡ false → (require b m p >> r) ≡ refused m p
+require-false true m p r e = absurd (clash (cc))
+require-false false m p r e = refl
+
+module _ (Σ : List Term) (most deep : ℕ) (ws new : List ℕ) where
+  pub empty-term : length ws < 1 → Judged (typed-term Σ most deep ws) (length ws) new (Refused term-length 0)
+  empty-term h = judged-refused _ _ new term-length 0 (ap (λ x. x >>= λ t. infer Σ [] 0 t) (require-false (leb 1 (length ws) && leb (length ws) most) term-length 0 _ (ap (λ (x : Bool). x && leb (length ws) most) (lt-leb 1 (length ws) h))))
+
+  pub long-term : most < length ws → Judged (typed-term Σ most deep ws) (length ws) new (Refused term-length 0)
+  long-term h = judged-refused _ _ new term-length 0 (ap (λ x. x >>= λ t. infer Σ [] 0 t) (require-false (leb 1 (length ws) && leb (length ws) most) term-length 0 _ (ap (λ (x : Bool). leb 1 (length ws) && x) (lt-leb (length ws) most h) ∙ and-false (leb 1 (length ws)))))
+
+  module _ (some-word : 1 ≤ length ws) (not-more : length ws ≤ most) where
+    in-range : (leb 1 (length ws) && leb (length ws) most) ≡ true
+    in-range = true-both (le-leb 1 (length ws) some-word) (le-leb (length ws) most not-more)
+
+    pub malformed-term : (r : Parse) (place : ℕ) → r ≡ whole (read-whole ws) → r ≡ Bad place → Judged (typed-term Σ most deep ws) (length ws) new (Refused malformed place)
+    malformed-term r place e q =
+        let h = whole-malformed ws place (sym e ∙ q) in
+        judged-refused _ _ new malformed place (ap (λ x. x >>= λ t. infer Σ [] 0 t) (pass term-length 0 in-range (ap (λ x. x >>= λ t. nowhere nesting-number (too-deep deep 0 t) >> ok t) h)))
+
+    module _ (t : Term) (is : read-whole ws ≡ ok t) where
+      read-term : typed-term Σ most deep ws ≡ ((nowhere nesting-number (too-deep deep 0 t) >> ok t) >>= λ t. infer Σ [] 0 t)
+      read-term = ap (λ x. x >>= λ t. infer Σ [] 0 t) (pass term-length 0 in-range (ap (λ x. x >>= λ t. nowhere nesting-number (too-deep deep 0 t) >> ok t) is))
+
+      pub deep-term : (r : Nesting) (end place : ℕ) → r ≡ nesting end (too-deep deep 0 t) → r ≡ Past place → Judged (typed-term Σ most deep ws) (length ws) new (Refused nesting-number place)
+      deep-term r end place e q =
+          let h = past-is (too-deep deep 0 t) end place (sym q ∙ e) in
+          judged-refused _ _ new nesting-number place (read-term ∙ ap (λ x. (nowhere nesting-number x >> ok t) >>= λ t. infer Σ [] 0 t) h)
+
+      -- a term that is not too deep is inferred
+      pub inferred-term : too-deep deep 0 t ≡ none → typed-term Σ most deep ws ≡ infer Σ [] 0 t
+      inferred-term h = read-term ∙ ap (λ x. (nowhere nesting-number x >> ok t) >>= λ t. infer Σ [] 0 t) h
+
+-- the term that was read
+pub record Term-in (ws : List ℕ) : Type 0 where
+  pub term : Term
+  pub read : read-whole ws ≡ ok term
+  pub is : Is ws term
+
+pub term-in : (ws : List ℕ) (r : Parse) (end : ℕ) → r ≡ whole (read-whole ws) → r ≡ End end → Term-in ws
+term-in ws r end e q = let (t, f, i, n) = whole-term ws end (sym e ∙ q) in record { term = t; read = f; is = i }
+
+-- with no binders, a term that is not too deep is ready
+pub ready-term : (sig table proof ws : List ℕ) (deep : ℕ) (Σ : List Term) (t : Term) → Constants-of sig table Σ → Is proof t → too-deep deep 0 t ≡ none → deep ≤ most-nesting → Ready sig table proof ws 0 0 0 deep Σ [] t
+ready-term sig table proof ws deep Σ t C i h l = record {
+  declared = C .declared;
+  signature = C .signature;
+  binders = no-entries;
+  context = no-binder;
+  here = is-at i;
+  deep = too-deep-right t deep 0 .0 h;
+  few = omega arith;
+}
+
+pub fine-depth : (r : Nesting) (end next : ℕ) (x : Option ℕ) → r ≡ nesting end x → r ≡ Within next → x ≡ none
+fine-depth r end next x e q = within-is x end next (sym q ∙ e) .fine
+
+pub judged-term : (o o′ : Result Term) (ws old new : List ℕ) (t : Term) (r : Derivation) → o ≡ o′ → Is ws t → Derived o′ (0 + size t) 0 old new r → Judged o (length ws) new r
+judged-term o o′ ws old new t r e i d =
+    let n : 0 + size t ≡ length ws = omega (arith, size-is ws t i) in
+    subst (λ (x : Result Term). Judged x (length ws) new r) (sym e) (record { answer = d .answer ∙ ap (answer-of o′) n; front = d .front })

@@ -1,0 +1,601 @@
+-- The derivation of a term's type, step by step: what holds where each child has its type, and what follows for the whole.
+use Prim.Native.Nat.{ℕ, suc, _+_, _-_, _*_, _%_, _≤_}
+use native.Mathlib.Omega.{arith}
+use mathlib.Core.Path.{_≡_, refl, sym, ap, ap₂, subst, subst₂, _∙_}
+use mathlib.Core.Logic.{inl, inr}
+use mathlib.Core.Bool.{Bool, true, false}
+use mathlib.Core.List.{List, [], _∷_, _++_, append-assoc, append-nil}
+use mathlib.Core.Option.{Option, some, none}
+use lib.ListN.{length, take, drop, getD, getElem?, length-append, length-drop}
+use lib.Seq.{take-at, drop-at, drop-drop, take-append-add, length-take-le}
+use lib.IntN.{pos}
+use Rattle.logic.specs.Limits.{payloads, most-words, most-nesting, most-type-words}
+use Rattle.logic.specs.Refusals.{unbound-variable, condition-fails}
+use Rattle.logic.specs.Result.{Result, ok, refused, _>>=_, _>>_, require, known}
+use Rattle.logic.specs.Term.{Atom, Op, saysO, piO, lamO, appO, retO, bindO, Term, atom, var, sign, node, N, P, Says, Pi, atomWord, opWord, encode, size, Op-discrete}
+use Rattle.logic.specs.Move.{raise, fill}
+use Rattle.logic.specs.Typing.{Has, of-prop}
+use Rattle.logic.specs.Scope.{Signature, Context, no-binder, binder}
+use Rattle.logic.specs.Infer.{infer, measured, same, domain, Parts, parts}
+use Rattle.logic.specs.Reading.{PlainAtom, Plain, PlainType, depth}
+use Rattle.logic.proofs.Basics.{clash, no-entry, some-inj}
+use Rattle.logic.proofs.Results.{not-ok, pass, require-ok}
+use Rattle.logic.proofs.Words.{encode-size, plain-in-range}
+use Rattle.logic.proofs.Range.{Named, AllNamed, in-range-named, named-shift, plain-typed, inferred}
+use Rattle.logic.proofs.Substitution.{weaken-one}
+use Rattle.logic.proofs.Regularity.{said, stratify}
+use Rattle.logic.proofs.Conditions.{measured-small, parts-some, domain-ok}
+use Rattle.logic.proofs.Proposition.{same-yes}
+use Rattle.logic.proofs.Soundness.{sound}
+use Rattle.logic.proofs.Searches.{depth-pos}
+use Rattle.words.specs.Place.{At}
+use Rattle.words.specs.Typed.{TypeAt}
+use Rattle.words.proofs.Places.{at-head, at-sign, at-left, at-right, payload}
+use Rattle.logic.proofs.Shapes.{headKind, op-low}
+use Rattle.words.proofs.Shifts.{size-shift}
+use Rattle.rules.specs.Rule.{atom-type, variable-type, sign-type, first, second, ready, within, formed}
+use Rattle.rules.specs.Scope.{tail, scope-words, entry-head, Binders, no-binder as no-entries, in-proof, in-workspace, entry, Declared}
+use Rattle.rules.specs.Form.{answer-of, Front, Formed, front-words, level-words}
+use Rattle.typing.specs.Derive.{Derived, Ready}
+use Rattle.rules.specs.Variable.{Raises}
+use Rattle.rules.specs.Results.{Signs, First, Forms, Formable}
+use Rattle.rules.specs.Enter.{Enters, Entering, Entering-by, keep-of}
+use Rattle.rules.specs.declared.derivation.Derivation.{Derivation}
+use Rattle.rules.specs.declared.derivation.Derivation.the-variants.{Typed, Refused}
+use Rattle.rules.specs.declared.enter.Entered.{Entered}
+use Rattle.rules.specs.declared.enter.Entered.the-variants.{Fits, Fails}
+use Rattle.typing.proofs.Tails.{tail-length, tail-kept, tail-less, rest-of, whole-of, rest-tail, whole-tail, whole-length, whole-is, rest-length}
+use Rattle.typing.proofs.Uniform.{rule, uniform}
+
+-- ---- what an answer tells
+
+pub record Answered (o : Result Term) (end : ℕ) (new : List ℕ) (n e : ℕ) : Type 0 where
+  pub type : Term
+  pub is : o ≡ ok type
+  pub words : n ≡ size type
+  pub ends : e ≡ end
+  pub front : TypeAt new 0 type
+
+answered : (o : Result Term) (end : ℕ) (new : List ℕ) (n e : ℕ) → Typed n e ≡ answer-of o end → Front o new → Answered o end new n e
+answered (ok A) end new n e q f = record { type = A; is = refl; words = cc; ends = cc; front = f }
+answered (refused m p) end new n e q f = absurd (clash (cc))
+
+pub typed-is : (o : Result Term) (end used : ℕ) (old new : List ℕ) (r : Derivation) (n e : ℕ) → Derived o end used old new r → r ≡ Typed n e → Answered o end new n e
+typed-is o end used old new r n e d q = answered o end new n e (sym q ∙ d .answer) (d .front)
+
+refused-by : (o : Result Term) (end m p : ℕ) → Refused m p ≡ answer-of o end → o ≡ refused m p
+refused-by (ok A) end m p q = absurd (clash (cc))
+refused-by (refused m′ p′) end m p q = cc
+
+pub refused-is : (o : Result Term) (end used : ℕ) (old new : List ℕ) (r : Derivation) (m p : ℕ) → Derived o end used old new r → r ≡ Refused m p → o ≡ refused m p
+refused-is o end used old new r m p d q = refused-by o end m p (sym q ∙ d .answer)
+
+-- what only the front was written for
+pub from-front : (o : Result Term) (end used : ℕ) (old new : List ℕ) (r : Derivation) → length new ≡ length old → used + front-words ≤ length old → Formed o end old new r → Derived o end used old new r
+from-front o end used old new r e l f = record { answer = f .answer; front = f .front; kept = tail-kept used front-words old new e (f .rest) (omega arith) }
+
+pub refused-derived : (o : Result Term) (end used : ℕ) (old new : List ℕ) (r : Derivation) (m p : ℕ) → o ≡ refused m p → r ≡ Refused m p → tail used new ≡ tail used old → Derived o end used old new r
+refused-derived o end used old new r m p e q k = subst (λ (x : Result Term). Derived x end used old new r) (sym e) (record { answer = q; front = tt; kept = k })
+
+-- what stands behind an entry
+tail-behind : (used kept : ℕ) (x e y : List ℕ) → kept ≡ used + length e → kept ≤ length x → tail kept x ≡ e ++ y → tail used x ≡ y
+tail-behind used kept x e y k l h =
+    let q : length x - used ≡ length x - kept + length e = omega arith in
+    ap (λ (i : ℕ). drop i x) q ∙ sym (drop-drop (length e) (length x - kept) x) ∙ ap (drop (length e)) h ∙ drop-at e y (length e) refl
+
+-- a type that stood at the front of a part stands behind what is before the part
+type-behind : (n : ℕ) (ws part : List ℕ) (A : Term) → n ≤ length ws → TypeAt part 0 A → TypeAt (whole-of n ws part) n A
+type-behind n ws part A l h = record {
+  plain = h .plain;
+  rest = h .rest;
+  words = ap (drop n) (whole-is n ws part) ∙ drop-at (take n ws) part n (length-take-le n ws l) ∙ h .words;
+}
+
+-- and a type before it stays
+type-before : (n : ℕ) (ws part : List ℕ) (A : Term) → n ≡ size A → TypeAt ws 0 A → TypeAt (whole-of n ws part) 0 A
+type-before n ws part A e h = record {
+  plain = h .plain;
+  rest = part;
+  words = whole-is n ws part ∙ ap (λ (x : List ℕ). x ++ part) (ap₂ (λ (i : ℕ) (x : List ℕ). take i x) e (h .words) ∙ take-at (encode A) (h .rest) (size A) (encode-size A));
+}
+
+-- ---- the names in scope
+
+named-list : (Σ : List Term) → ((n : ℕ) (A : Term) → getElem? Σ n ≡ some A → Plain A) → AllNamed Σ
+named-list [] f = tt
+named-list (A ∷ Σ) f = (in-range-named A (plain-in-range A (f 0 A refl)), named-list Σ (λ n B e. f (suc n) B e))
+
+pub declared-named : (sig table : List ℕ) (Σ : List Term) → Declared sig table Σ → AllNamed Σ
+declared-named sig table Σ d = named-list Σ (λ n A e. d .type n A e .plain)
+
+pub binders-named : {proof h : List ℕ} {Γ : List Term} → Binders proof h Γ → AllNamed Γ
+binders-named no-entries = tt
+binders-named (in-proof {A} a b) = (in-range-named A (plain-in-range A (a .plain)), binders-named b)
+binders-named (in-workspace {A} x p l b) = (in-range-named A (plain-in-range A p), binders-named b)
+
+-- what the check gives for a term that is ready
+pub type-of : {sig table proof ws : List ℕ} {floor used at left : ℕ} {Σ Γ : List Term} {t A : Term} → Ready sig table proof ws floor used at left Σ Γ t → infer Σ Γ at t ≡ ok A → PlainType A × (size A ≤ most-type-words)
+type-of {sig} {table} {at} {Σ} {Γ} {t} r e = inferred (r .signature) (declared-named sig table Σ (r .declared)) (r .context) (binders-named (r .binders)) (omega (arith, r .few)) t at (r .here .plain) e
+
+-- ---- a Sign
+
+pub sign-ready : {sig table proof ws : List ℕ} {floor used at left : ℕ} {Σ Γ : List Term} {n : ℕ} {q : Term} → Ready sig table proof ws floor used at left Σ Γ (sign n q) → Ready sig table proof ws used used (at + 1) (left - 1) Σ [] q
+unfolding depth
+sign-ready {proof} {ws} {used} r = record {
+  declared = r .declared;
+  signature = r .signature;
+  binders = let e : used - used ≡ 0 = omega arith in subst (λ (i : ℕ). Binders proof (take i (tail used ws)) []) (sym e) no-entries;
+  context = no-binder;
+  here = at-sign (r .here);
+  deep = omega (arith, r .deep);
+  few = omega (arith, r .few);
+}
+
+-- ---- the children of a node
+
+-- the first child's type is derived
+pub record Between (proof ws mid : List ℕ) (used at next n : ℕ) (Σ Γ : List Term) (o : Op) (a : Term) : Type 0 where
+  pub type : Term
+  pub is : infer Σ Γ (at + 1) a ≡ ok type
+  pub plain : PlainType type
+  pub small : size type ≤ most-type-words
+  pub enters : Enters proof mid at next n o a type
+  pub kept : tail used mid ≡ tail used ws
+
+-- the test on it passed, and the second child's derivation is lent what is left
+pub record Inside (mid mid2 : List ℕ) (used at n keep kept : ℕ) (o : Op) (a A : Term) : Type 0 where
+  pub passed : ready o at a A ≡ ok tt
+  pub keep-is : keep ≡ keep-of o n
+  pub kept-is : kept ≡ used + length (entry o at a A)
+  pub entered : tail kept mid2 ≡ entry o at a A ++ tail used mid
+  pub front : TypeAt mid2 0 A
+
+inside-by : (x : Result (Unit {0})) (o : Op) (at : ℕ) (a A : Term) (n used : ℕ) (mid mid2 : List ℕ) (keep kept : ℕ) → x ≡ ready o at a A → Entering-by x o at a A n used mid mid2 (Fits keep kept) → Inside mid mid2 used at n keep kept o a A
+inside-by (ok u) o at a A n used mid mid2 keep kept e (q, t, f) =
+    let k : kept ≡ used + length (entry o at a A) = cc in
+    record { passed = sym e; keep-is = cc; kept-is = k; entered = ap (λ (i : ℕ). tail i mid2) k ∙ t; front = f }
+inside-by (refused m p) o at a A n used mid mid2 keep kept e (q, t) = absurd (clash (cc))
+
+pub inside : (o : Op) (at : ℕ) (a A : Term) (n used : ℕ) (mid mid2 : List ℕ) (r : Entered) (keep kept : ℕ) → Entering o at a A n used mid mid2 r → r ≡ Fits keep kept → Inside mid mid2 used at n keep kept o a A
+unfolding Entering
+inside o at a A n used mid mid2 r keep kept e q = inside-by (ready o at a A) o at a A n used mid mid2 keep kept refl (subst (Entering-by (ready o at a A) o at a A n used mid mid2) q e)
+
+-- a refusal of the test is 11 at the node
+record Failed (mid mid2 : List ℕ) (o : Op) (at : ℕ) (a A : Term) : Type 0 where
+  fails : ready o at a A ≡ refused condition-fails at
+  unchanged : mid2 ≡ mid
+
+require-refused : (b : Bool) (m p m′ p′ : ℕ) → require b m p ≡ refused m′ p′ → require b m p ≡ refused m p
+require-refused true m p m′ p′ e = absurd (clash (cc))
+require-refused false m p m′ p′ e = refl
+
+known-refused : (o : Option Parts) (m p m′ p′ : ℕ) → (known m p o >> ok (tt {0})) ≡ refused m′ p′ → (known m p o >> ok (tt {0})) ≡ refused m p
+known-refused none m p m′ p′ e = refl
+known-refused (some x) m p m′ p′ e = absurd (clash (cc))
+
+ready-refused : (o : Op) (at : ℕ) (a A : Term) (m p : ℕ) → ready o at a A ≡ refused m p → ready o at a A ≡ refused condition-fails at
+unfolding ready
+ready-refused saysO at a A m p e = require-refused (same A N) condition-fails at m p e
+ready-refused piO at a A m p e = require-refused (domain a A) condition-fails at m p e
+ready-refused lamO at a A m p e = require-refused (domain a A) condition-fails at m p e
+ready-refused appO at a A m p e = known-refused (parts piO A) condition-fails at m p e
+ready-refused retO at a A m p e = require-refused (same A N) condition-fails at m p e
+ready-refused bindO at a A m p e = known-refused (parts saysO A) condition-fails at m p e
+
+failed-by : (x : Result (Unit {0})) (o : Op) (at : ℕ) (a A : Term) (n used : ℕ) (mid mid2 : List ℕ) → x ≡ ready o at a A → Entering-by x o at a A n used mid mid2 Fails → Failed mid mid2 o at a A
+failed-by (ok u) o at a A n used mid mid2 e (q, t, f) = absurd (clash (cc))
+failed-by (refused m p) o at a A n used mid mid2 e (q, t) = record { fails = ready-refused o at a A m p (sym e); unchanged = t }
+
+failed : (o : Op) (at : ℕ) (a A : Term) (n used : ℕ) (mid mid2 : List ℕ) (r : Entered) → Entering o at a A n used mid mid2 r → r ≡ Fails → Failed mid mid2 o at a A
+unfolding Entering
+failed o at a A n used mid mid2 r e q = failed-by (ready o at a A) o at a A n used mid mid2 refl (subst (Entering-by (ready o at a A) o at a A n used mid mid2) q e)
+
+-- what the test says of the first child's type
+
+known-some : {o : Op} (A : Term) (at : ℕ) → (known condition-fails at (parts o A) >> ok (tt {0})) ≡ ok tt → A ≡ node o (first A) (second A)
+known-some {o} A at e = go (parts o A) refl e
+  where
+    go : (x : Option Parts) → parts o A ≡ x → (known condition-fails at x >> ok (tt {0})) ≡ ok tt → A ≡ node o (first A) (second A)
+    go none e q = absurd (not-ok q)
+    go (some p) e q = let h = parts-some o A e in h ∙ ap₂ (node o) (sym (ap first h)) (sym (ap second h))
+
+pub ready-pi : (at : ℕ) (a A : Term) → ready appO at a A ≡ ok tt → A ≡ Pi (first A) (second A)
+unfolding ready
+ready-pi at a A e = known-some A at e
+
+pub ready-says : (at : ℕ) (a A : Term) → ready bindO at a A ≡ ok tt → A ≡ Says (first A) (second A)
+unfolding ready
+ready-says at a A e = known-some A at e
+
+-- the words of an entry
+pub entry-short : (o : Op) (at : ℕ) (a A : Term) → size A ≤ most-type-words → ready o at a A ≡ ok tt → length (entry o at a A) ≤ level-words
+unfolding size
+entry-short saysO at a A s e = omega arith
+entry-short piO at a A s e = omega arith
+entry-short lamO at a A s e = omega arith
+entry-short appO at a A s e = omega arith
+entry-short retO at a A s e = omega arith
+entry-short bindO at a A s e =
+    let h : size A ≡ suc (size (first A) + size (second A)) = ap size (ready-says at a A e) in
+    let l = length-append (encode (raise 1 (first A))) (encode (second A)) in
+    let x : length (encode (raise 1 (first A))) ≡ size (first A) = encode-size _ ∙ size-shift 0 _ (first A) in
+    let y = encode-size (second A) in
+    omega arith
+
+says-plain : (p q : Term) → PlainType (Says p q) → Plain p × Plain q
+unfolding Plain
+says-plain p q (inl h) = h
+says-plain p q (inr (inl e)) = absurd (clash (cc))
+says-plain p q (inr (inr e)) = absurd (clash (cc))
+
+-- the entry of a binder, before those of the others, is that of one binder more
+pub binders-more : {proof h : List ℕ} {Γ : List Term} (o : Op) (at : ℕ) (a A : Term) → At proof (at + 1) a → PlainType A → ready o at a A ≡ ok tt → Binders proof h Γ → Binders proof (entry o at a A ++ h) (within o a A Γ)
+unfolding size
+binders-more saysO at a A i p e b = b
+binders-more piO at a A i p e b = in-proof i b
+binders-more lamO at a A i p e b = in-proof i b
+binders-more appO at a A i p e b = b
+binders-more retO at a A i p e b = b
+binders-more {proof} {h} {Γ} bindO at a A i p e b =
+    let says : A ≡ Says (first A) (second A) = ready-says at a A e in
+    let q : Plain (first A) × Plain (second A) = says-plain (first A) (second A) (subst PlainType says p) in
+    let x : List ℕ = opWord saysO ∷ encode (raise 1 (first A)) in
+    let l : length (encode (raise 1 (first A))) ≡ size (first A) = encode-size _ ∙ size-shift 0 _ (first A) in
+    let s : size A ≡ suc (size (first A) + size (second A)) = ap size says in
+    let n : entry-head + (length x + size (second A)) ≡ entry-head + size A = omega arith in
+    subst (λ (w : List ℕ). Binders proof w (second A ∷ Γ))
+    (ap₂ (λ (k : ℕ) (w : List ℕ). k ∷ 0 ∷ size (second A) ∷ (opWord saysO ∷ w)) n (sym (append-assoc (encode (raise 1 (first A))) (encode (second A)) h)))
+    (in-workspace {s = 0} x (q .1) (omega arith) b)
+
+-- ---- what the check of a node is
+
+module _ (Σ Γ : List Term) (at : ℕ) (o : Op) (a b : Term) where
+  first-refused : (m p : ℕ) → infer Σ Γ (at + 1) a ≡ refused m p → infer Σ Γ at (node o a b) ≡ refused m p
+  first-refused m p e = uniform Σ Γ at o a b ∙ ap (λ x. x >>= λ A. rule Σ Γ at o a b A) e
+
+  module _ (A : Term) (is : infer Σ Γ (at + 1) a ≡ ok A) where
+    ruled : infer Σ Γ at (node o a b) ≡ rule Σ Γ at o a b A
+    ruled = uniform Σ Γ at o a b ∙ ap (λ x. x >>= λ A. rule Σ Γ at o a b A) is
+
+    test-refused : (m p : ℕ) → ready o at a A ≡ refused m p → infer Σ Γ at (node o a b) ≡ refused m p
+    test-refused m p e = ruled ∙ ap (λ x. x >> (infer Σ (within o a A Γ) (at + 1 + size a) b >>= λ B. formed o at a b A B)) e
+
+    passed-test : ready o at a A ≡ ok tt → infer Σ Γ at (node o a b) ≡ (infer Σ (within o a A Γ) (at + 1 + size a) b >>= λ B. formed o at a b A B)
+    passed-test e = ruled ∙ ap (λ x. x >> (infer Σ (within o a A Γ) (at + 1 + size a) b >>= λ B. formed o at a b A B)) e
+
+    module _ (passed : ready o at a A ≡ ok tt) (next : ℕ) (next-is : next ≡ at + 1 + size a) where
+      second-refused : (m p : ℕ) → infer Σ (within o a A Γ) next b ≡ refused m p → infer Σ Γ at (node o a b) ≡ refused m p
+      second-refused m p e = passed-test passed ∙ ap (λ x. x >>= λ B. formed o at a b A B) (ap (λ (i : ℕ). infer Σ (within o a A Γ) i b) (sym next-is) ∙ e)
+
+      node-formed : (B : Term) → infer Σ (within o a A Γ) next b ≡ ok B → infer Σ Γ at (node o a b) ≡ formed o at a b A B
+      node-formed B e = passed-test passed ∙ ap (λ x. x >>= λ B. formed o at a b A B) (ap (λ (i : ℕ). infer Σ (within o a A Γ) i b) (sym next-is) ∙ e)
+
+-- what a derivation ensures
+abbrev pub Derives : (sig table proof old : List ℕ) → (floor used at left : ℕ) → (new : List ℕ) → Derivation → Type 0
+Derives sig table proof old floor used at left new r = (Σ Γ : List Term) → (t : Term) → Ready sig table proof old floor used at left Σ Γ t → Derived (infer Σ Γ at t) (at + size t) used old new r
+
+module _ {sig table proof ws : List ℕ} {floor used at left : ℕ} {Σ Γ : List Term} {o : Op} {a b : Term} (R : Ready sig table proof ws floor used at left Σ Γ (node o a b)) where
+  pub first-ready : Ready sig table proof ws floor used (at + 1) (left - 1) Σ Γ a
+  unfolding depth
+  first-ready = record {
+    declared = R .declared;
+    signature = R .signature;
+    binders = R .binders;
+    context = R .context;
+    here = at-left (R .here);
+    deep = omega (arith, R .deep);
+    few = omega (arith, R .few);
+  }
+
+  pub two-deep : 2 ≤ left
+  unfolding depth
+  two-deep = omega (arith, R .deep, depth-pos a)
+
+  pub between : (mid : List ℕ) (r : Derivation) (n next : ℕ) → Derives sig table proof ws floor used (at + 1) (left - 1) mid r → r ≡ Typed n next → Between proof ws mid used at next n Σ Γ o a
+  between mid r n next d q =
+      let D = d Σ Γ a first-ready in
+      let A = typed-is _ _ used ws mid r n next D q in
+      let P = type-of first-ready (A .is) in
+      record {
+        type = A .type;
+        is = A .is;
+        plain = P .0;
+        small = P .1;
+        enters = record { head = at-head (R .here); here = at-left (R .here); next-is = A .ends; type = A .front; type-words = A .words };
+        kept = D .kept;
+      }
+
+  module _ (mid mid2 : List ℕ) (next n keep kept : ℕ) (B : Between proof ws mid used at next n Σ Γ o a) (I : Inside mid mid2 used at n keep kept o a (B .type)) (below : floor ≤ used) (same : length mid2 ≡ length ws) (room : used + left * level-words + front-words ≤ length ws) where
+    abbrev A : Term
+    A = B .type
+
+    first-has : Has Σ Γ a A
+    first-has = sound Σ (R .signature) a Γ (at + 1) (R .context) (B .is) .0
+
+    keep-small : keep ≤ most-type-words
+    keep-small = go o (I .keep-is)
+      where
+        go : (o : Op) → keep ≡ keep-of o n → keep ≤ most-type-words
+        go saysO e = omega arith
+        go piO e = omega arith
+        go lamO e = omega arith
+        go appO e = omega (arith, B .enters .type-words, B .small)
+        go retO e = omega arith
+        go bindO e = omega arith
+
+    -- a level's words, and those of the levels below it
+    mul-level : (k : ℕ) → 2 ≤ k → level-words + level-words ≤ k * level-words
+    mul-level k l = omega arith
+
+    -- a level keeps a type at the front or an entry at the end
+    pub level : keep + kept ≤ used + level-words
+    level = go o (I .keep-is) (I .kept-is) (entry-short o at a A (B .small) (I .passed))
+      where
+        go : (o : Op) → keep ≡ keep-of o n → kept ≡ used + length (entry o at a A) → length (entry o at a A) ≤ level-words → keep + kept ≤ used + level-words
+        go saysO e f l = omega arith
+        go piO e f l = omega arith
+        go lamO e f l = omega arith
+        go appO e f l = omega (arith, B .enters .type-words, B .small)
+        go retO e f l = omega arith
+        go bindO e f l = omega arith
+
+    kept-here : tail kept (rest-of keep mid2) ≡ entry o at a A ++ tail used ws
+    kept-here =
+        let l = level in let m = two-deep in
+        rest-tail keep kept mid2 (omega (arith, mul-level left two-deep)) ∙ I .entered ∙ ap (λ (x : List ℕ). entry o at a A ++ x) (B .kept)
+
+    scope-here : scope-words floor kept (rest-of keep mid2) ≡ entry o at a A ++ scope-words floor used ws
+    scope-here =
+        let k = I .kept-is in
+        let e : kept - floor ≡ length (entry o at a A) + (used - floor) = omega arith in
+        ap₂ (λ (i : ℕ) (x : List ℕ). take i x) e kept-here ∙ take-append-add (entry o at a A) (tail used ws) (used - floor)
+
+    context-here : Context Σ (within o a A Γ)
+    unfolding ready
+    context-here = go o (I .passed)
+      where
+        go : (o : Op) → ready o at a A ≡ ok tt → Context Σ (within o a A Γ)
+        go saysO e = R .context
+        go piO e = binder (R .context) first-has (domain-ok a A (require-ok (domain a A) _ _ e))
+        go lamO e = binder (R .context) first-has (domain-ok a A (require-ok (domain a A) _ _ e))
+        go appO e = R .context
+        go retO e = R .context
+        go bindO e = binder (R .context) (said Σ (R .signature) (stratify Σ (R .signature) (R .context) (subst (Has Σ Γ a) (ready-says at a A e) first-has)) .1) of-prop
+
+    within-length : length (within o a A Γ) ≤ length Γ + 1
+    within-length = go o
+      where
+        go : (o : Op) → length (within o a A Γ) ≤ length Γ + 1
+        go saysO = omega arith
+        go piO = omega arith
+        go lamO = omega arith
+        go appO = omega arith
+        go retO = omega arith
+        go bindO = omega arith
+
+    pub second-ready : Ready sig table proof (rest-of keep mid2) floor kept next (left - 1) Σ (within o a A Γ) b
+    unfolding depth
+    second-ready = record {
+      declared = R .declared;
+      signature = R .signature;
+      binders = subst (λ (w : List ℕ). Binders proof w (within o a A Γ)) (sym scope-here) (binders-more o at a A (B .enters .here) (B .plain) (I .passed) (R .binders));
+      context = context-here;
+      here = subst (λ (i : ℕ). At proof i b) (sym (B .enters .next-is)) (at-right (R .here));
+      deep = omega (arith, R .deep);
+      few = omega (arith, R .few, within-length, two-deep);
+    }
+
+    module _ (part : List ℕ) (r : Derivation) (same-part : length part ≡ length (rest-of keep mid2)) (d : Derives sig table proof (rest-of keep mid2) floor kept next (left - 1) part r) where
+      abbrev mid3 : List ℕ
+      mid3 = whole-of keep mid2 part
+
+      second-derived : Derived (infer Σ (within o a A Γ) next b) (next + size b) kept (rest-of keep mid2) part r
+      second-derived = d Σ (within o a A Γ) b second-ready
+
+      fits-level : keep + kept + front-words ≤ length mid2
+      fits-level = omega (arith, level, two-deep, mul-level left two-deep)
+
+      kept-back : tail kept mid3 ≡ tail kept mid2
+      kept-back = whole-tail keep kept mid2 part (omega (arith, fits-level)) same-part (second-derived .kept)
+
+      length-back : length mid3 ≡ length ws
+      length-back = whole-length keep mid2 part (omega (arith, fits-level)) same-part ∙ same
+
+      used-back : tail used mid3 ≡ tail used ws
+      used-back = tail-behind used kept mid3 (entry o at a A) (tail used ws) (I .kept-is) (omega (arith, fits-level, length-back)) (kept-back ∙ I .entered ∙ ap (λ (x : List ℕ). entry o at a A ++ x) (B .kept))
+
+      pub second-refusal : (m p : ℕ) → r ≡ Refused m p → Derived (infer Σ Γ at (node o a b)) (at + size (node o a b)) used ws mid3 r
+      second-refusal m p q =
+          refused-derived _ _ used ws mid3 r m p
+          (second-refused Σ Γ at o a b A (B .is) (I .passed) next (B .enters .next-is) m p (refused-is _ _ kept (rest-of keep mid2) part r m p second-derived q))
+          q used-back
+
+      module _ (m end : ℕ) (q : r ≡ Typed m end) where
+        pub second-type : Answered (infer Σ (within o a A Γ) next b) (next + size b) part m end
+        second-type = typed-is _ _ kept (rest-of keep mid2) part r m end second-derived q
+
+        abbrev C : Term
+        C = second-type .type
+
+        second-small : size C ≤ most-type-words
+        second-small = type-of second-ready (second-type .is) .1
+
+        node-is : infer Σ Γ at (node o a b) ≡ formed o at a b A C
+        node-is = node-formed Σ Γ at o a b A (B .is) (I .passed) next (B .enters .next-is) C (second-type .is)
+
+        node-plain : (X : Term) → formed o at a b A C ≡ ok X → PlainType X
+        node-plain X e = type-of R (node-is ∙ e) .0
+
+        -- the principal of a Says type is plain under one binder more
+        principal : A ≡ Says (first A) (second A) → Plain (raise 1 (first A))
+        unfolding size
+        principal e =
+            let h = said Σ (R .signature) (stratify Σ (R .signature) (R .context) (subst (Has Σ Γ a) e first-has)) in
+            let p : Plain (first A) × Plain (second A) = says-plain (first A) (second A) (subst PlainType e (B .plain)) in
+            let s : size A ≡ suc (size (first A) + size (second A)) = ap size e in
+            plain-typed (weaken-one Σ (R .signature) (second A) (h .0)) (omega (arith, size-shift 0 (pos 1) (first A), B .small, R .few)) (named-shift 0 (pos 1) (first A) (in-range-named (first A) (plain-in-range (first A) (p .0))))
+
+        first-here : First o mid3 b A C
+        unfolding formed
+        first-here = go o (I .keep-is) (I .passed) node-plain
+          where
+            go : (o : Op) → keep ≡ keep-of o n → ready o at a A ≡ ok tt → ((X : Term) → formed o at a b A C ≡ ok X → PlainType X) → First o mid3 b A C
+            go saysO k e f = tt
+            go piO k e f = tt
+            go lamO k e f = tt
+            go appO k e f = (
+              ready-pi at a A e,
+              type-before keep mid2 part A (k ∙ B .enters .type-words) (I .front),
+              λ y z. f (fill (second A) b) (pass _ at (same-yes y) (measured-small at z)),
+            )
+            go retO k e f = tt
+            go bindO k e f = let x = ready-says at a A e in (x, principal x)
+
+        ends-here : end ≡ at + size (node o a b)
+        unfolding size
+        ends-here = omega (arith, second-type .ends, B .enters .next-is)
+
+        pub forms-here : Forms proof mid3 kept at next n m end o a b A C
+        forms-here = record {
+          here = R .here;
+          next-is = B .enters .next-is;
+          end-is = ends-here;
+          first-words = B .enters .type-words;
+          first-type = first-here;
+          second-words = second-type .words;
+          second-type = subst (λ (i : ℕ). TypeAt mid3 i C) (I .keep-is) (type-behind keep mid2 part C (omega (arith, fits-level)) (second-type .front));
+          rest = tail used mid;
+          kept = kept-back ∙ I .entered;
+        }
+
+        pub formable : length proof ≤ most-words → Formable proof mid3 kept at next n m end
+        formable short = record {
+          o = o;
+          a = a;
+          b = b;
+          A = A;
+          B = C;
+          forms = forms-here;
+          small-first = omega (arith, B .enters .type-words, B .small);
+          small-second = omega (arith, second-type .words, second-small);
+          short = short;
+          room = omega (arith, fits-level, length-back, same, I .keep-is);
+        }
+
+        pub node-derived : (mid4 : List ℕ) (s : Derivation) → length mid4 ≡ length mid3 → Formed (formed o at a b A C) end mid3 mid4 s → Derived (infer Σ Γ at (node o a b)) (at + size (node o a b)) used ws mid4 s
+        node-derived mid4 s e f =
+            let D = from-front (formed o at a b A C) end used mid3 mid4 s e (omega (arith, fits-level, length-back, I .kept-is)) f in
+            subst₂ (λ (x : Result Term) (i : ℕ). Derived x i used ws mid4 s) (sym node-is) ends-here (record { answer = D .answer; front = D .front; kept = D .kept ∙ used-back })
+
+-- ---- leaves and Signs
+
+module _ {sig table proof ws : List ℕ} {floor used at left : ℕ} {Σ Γ : List Term} (k : ℕ) (new : List ℕ) (r : Derivation) (same : length new ≡ length ws) (room : used + front-words ≤ length ws) where
+  pub atom-derived : (t : Term) → k ≡ 0 → k ≡ headKind t → Ready sig table proof ws floor used at left Σ Γ t
+      → ((Σ : List Term) → (a : Atom) → Declared sig table Σ → getD proof at 0 ≡ atomWord a → PlainAtom a → Formed (atom-type Σ at a) (at + 1) ws new r)
+      → Derived (infer Σ Γ at t) (at + size t) used ws new r
+  unfolding infer size Plain
+  atom-derived (atom a) z h R f = from-front _ _ used ws new r same room (f Σ a (R .declared) (at-head (R .here)) (R .here .plain))
+  atom-derived (var n) z h R f = absurd (omega arith)
+  atom-derived (sign n q) z h R f = absurd (omega arith)
+  atom-derived (node o a b) z h R f = absurd (omega (arith, op-low o))
+
+  -- a variable's type is plain where the variable stands
+  raises : (n : ℕ) → Ready sig table proof ws floor used at left Σ Γ (var n) → Raises Γ n
+  unfolding infer
+  raises n R A e s = type-of R (ap (λ (x : Option Term). known unbound-variable at x >>= λ A. measured at (raise (suc n) A)) e ∙ measured-small at (subst (λ (i : ℕ). i ≤ most-type-words) (sym (size-shift 0 (pos (suc n)) A)) s)) .0
+
+  pub variable-derived : (t : Term) → k ≡ 1 → k ≡ headKind t → Ready sig table proof ws floor used at left Σ Γ t
+      → ((Γ : List Term) → Binders proof (scope-words floor used ws) Γ → Raises Γ (getD proof at 0 % payloads) → Formed (variable-type Γ at (getD proof at 0 % payloads)) (at + 1) ws new r)
+      → Derived (infer Σ Γ at t) (at + size t) used ws new r
+  unfolding infer size
+  variable-derived (atom a) z h R f = absurd (omega arith)
+  variable-derived (var n) z h R f =
+      let e = payload proof at n (R .here) in
+      from-front _ _ used ws new r same room (subst (λ (i : ℕ). Formed (variable-type Γ at i) (at + 1) ws new r) e (f Γ (R .binders) (subst (Raises Γ) (sym e) (raises n R))))
+  variable-derived (sign n q) z h R f = absurd (omega arith)
+  variable-derived (node o a b) z h R f = absurd (omega (arith, op-low o))
+
+  pub sign-refused : (t : Term) (m p : ℕ) → k ≡ 2 → k ≡ headKind t → Ready sig table proof ws floor used at left Σ Γ t → Derives sig table proof ws used used (at + 1) (left - 1) new r → r ≡ Refused m p → Derived (infer Σ Γ at t) (at + size t) used ws new r
+  unfolding infer
+  sign-refused (atom a) m p z h R d q = absurd (omega arith)
+  sign-refused (var n) m p z h R d q = absurd (omega arith)
+  sign-refused (sign n t) m p z h R d q =
+      let D = d Σ [] t (sign-ready R) in
+      refused-derived _ _ used ws new r m p (ap (λ x. x >>= λ s. sign-type at n t s) (refused-is _ _ used ws new r m p D q)) q (D .kept)
+  sign-refused (node o a b) m p z h R d q = absurd (omega (arith, op-low o))
+
+-- a Sign's proposition has its type
+pub record Signed-in (proof ws new : List ℕ) (used at n end : ℕ) (Σ Γ : List Term) (t : Term) : Type 0 where
+  pub a : ℕ
+  pub q : Term
+  pub s : Term
+  pub signs : Signs proof new at n end a q s
+  pub is : infer Σ Γ at t ≡ sign-type at a q s
+  pub ends : at + size t ≡ end
+  pub kept : tail used new ≡ tail used ws
+
+pub signed-in : {sig table proof ws : List ℕ} {floor used at left : ℕ} {Σ Γ : List Term} (t : Term) (k : ℕ) (new : List ℕ) (r : Derivation) (n end : ℕ) → k ≡ 2 → k ≡ headKind t → Ready sig table proof ws floor used at left Σ Γ t
+    → Derives sig table proof ws used used (at + 1) (left - 1) new r → r ≡ Typed n end → Signed-in proof ws new used at n end Σ Γ t
+unfolding infer size
+signed-in (atom a) k new r n end z h R d q = absurd (omega arith)
+signed-in (var i) k new r n end z h R d q = absurd (omega arith)
+signed-in {ws} {used} {at} {Σ} (sign a u) k new r n end z h R d q =
+    let D = d Σ [] u (sign-ready R) in
+    let A = typed-is _ _ used ws new r n end D q in
+    let e : end ≡ at + size (sign a u) = omega (arith, A .ends) in
+    record {
+      a = a;
+      q = u;
+      s = A .type;
+      signs = record { here = R .here; end-is = e; type = A .front; type-words = A .words };
+      is = ap (λ x. x >>= λ s. sign-type at a u s) (A .is);
+      ends = sym e;
+      kept = D .kept;
+    }
+signed-in (node o a b) k new r n end z h R d q = absurd (omega (arith, op-low o))
+
+pub sign-derived : {proof ws mid : List ℕ} {used at n end : ℕ} {Σ Γ : List Term} {t : Term} (S : Signed-in proof ws mid used at n end Σ Γ t) (new : List ℕ) (r : Derivation) → length new ≡ length mid → used + front-words ≤ length mid → Formed (sign-type at (S .a) (S .q) (S .s)) end mid new r → Derived (infer Σ Γ at t) (at + size t) used ws new r
+sign-derived {ws} {mid} {used} {at} {end} S new r e l f =
+    let D = from-front (sign-type at (S .a) (S .q) (S .s)) end used mid new r e l f in
+    subst₂ (λ (x : Result Term) (i : ℕ). Derived x i used ws new r) (sym (S .is)) (sym (S .ends)) (record { answer = D .answer; front = D .front; kept = D .kept ∙ S .kept })
+
+-- ---- a node's refusals before its second child
+
+pub first-refusal : {sig table proof ws : List ℕ} {floor used at left : ℕ} {Σ Γ : List Term} {o : Op} {a b : Term} (new : List ℕ) (r : Derivation) (m p : ℕ) → Ready sig table proof ws floor used at left Σ Γ (node o a b)
+    → Derives sig table proof ws floor used (at + 1) (left - 1) new r → r ≡ Refused m p → Derived (infer Σ Γ at (node o a b)) (at + size (node o a b)) used ws new r
+first-refusal {ws} {used} {at} {Σ} {Γ} {o} {a} {b} new r m p R d q =
+    let D = d Σ Γ a (first-ready R) in
+    refused-derived _ _ used ws new r m p (first-refused Σ Γ at o a b m p (refused-is _ _ used ws new r m p D q)) q (D .kept)
+
+pub test-refusal : {sig table proof ws : List ℕ} {floor used at left : ℕ} {Σ Γ : List Term} {o : Op} {a b : Term} (mid mid2 : List ℕ) (next n : ℕ) → Ready sig table proof ws floor used at left Σ Γ (node o a b)
+    → (B : Between proof ws mid used at next n Σ Γ o a) → (e : Entered) → Entering o at a (B .type) n used mid mid2 e → e ≡ Fails → Derived (infer Σ Γ at (node o a b)) (at + size (node o a b)) used ws mid2 (Refused condition-fails at)
+test-refusal {ws} {used} {at} {Σ} {Γ} {o} {a} {b} mid mid2 next n R B e E q =
+    let F = failed o at a (B .type) n used mid mid2 e E q in
+    refused-derived _ _ used ws mid2 _ condition-fails at (test-refused Σ Γ at o a b (B .type) (B .is) condition-fails at (F .fails)) refl (ap (tail used) (F .unchanged) ∙ B .kept)
+
+-- ---- a node, by the number of its word's kind
+
+-- a node stands ready
+pub record NodeAt (sig table proof ws : List ℕ) (floor used at left : ℕ) (Σ Γ : List Term) : Type 0 where
+  pub o : Op
+  pub a : Term
+  pub b : Term
+  pub ready-node : Ready sig table proof ws floor used at left Σ Γ (node o a b)
+
+pub node-case : (F : Term → Type 0) (t : Term) (k : ℕ) → k ≡ headKind t → (k ≡ 0 → ⊥) → (k ≡ 1 → ⊥) → (k ≡ 2 → ⊥) → ((o : Op) (a b : Term) → F (node o a b)) → F t
+node-case F (atom a) k h n0 n1 n2 f = absurd (n0 h)
+node-case F (var n) k h n0 n1 n2 f = absurd (n1 h)
+node-case F (sign n q) k h n0 n1 n2 f = absurd (n2 h)
+node-case F (node o a b) k h n0 n1 n2 f = f o a b
+
+-- a Sign stands ready
+pub record SignAt (sig table proof ws : List ℕ) (floor used at left : ℕ) (Σ Γ : List Term) : Type 0 where
+  pub n : ℕ
+  pub q : Term
+  pub ready-sign : Ready sig table proof ws floor used at left Σ Γ (sign n q)
+
+pub sign-case : {sig table proof ws : List ℕ} {floor used at left : ℕ} {Σ Γ : List Term} (k : ℕ) (t : Term) → k ≡ headKind t → k ≡ 2 → Ready sig table proof ws floor used at left Σ Γ t → SignAt sig table proof ws floor used at left Σ Γ
+sign-case k (atom a) h z R = absurd (omega arith)
+sign-case k (var n) h z R = absurd (omega arith)
+sign-case k (sign n q) h z R = record { n = n; q = q; ready-sign = R }
+sign-case k (node o a b) h z R = absurd (omega (arith, op-low o))

@@ -1,0 +1,345 @@
+-- `typing::derive::derive` meets its contract, by recursion on the nesting left.
+use borrow.Author.Needs.{needs}
+use native.Mathlib.Omega.{arith}
+use Prim.Native.Nat.{ℕ, _+_, _-_, _≤_, _<_}
+use mathlib.Core.Path.{_≡_, _∙_}
+use mathlib.Core.List.{List, []}
+use lib.ListN.{length, getD}
+use borrow.Fn.Kinds.{In}
+use borrow.Fn.PlainCycle.{Measures, is, falls, and}
+use Rattle.logic.specs.Refusals.{condition-fails}
+use Rattle.logic.specs.Term.{Op, Term, node, size}
+use Rattle.logic.specs.Infer.{infer}
+use Rattle.logic.specs.Limits.{most-type-words}
+use Rattle.logic.proofs.Searches.{depth-pos}
+use Rattle.words.specs.Place.{At}
+use Rattle.words.proofs.Places.{at-kind, at-end, size-pos}
+use Rattle.logic.proofs.Shapes.{headKind}
+use Rattle.rules.specs.Rule.{within}
+use Rattle.rules.specs.Form.{level-words}
+use Rattle.typing.specs.Derive.{Ready, Derived}
+use Rattle.rules.specs.declared.derivation.Derivation.{Derivation}
+use Rattle.rules.specs.declared.derivation.Derivation.the-variants.{Refused}
+use Rattle.typing.proofs.Tails.{rest-of, whole-of, rest-length, whole-length}
+use Rattle.typing.proofs.Derives.{Between, between, Inside, inside, Signed-in, signed-in, sign-derived, sign-refused, sign-ready, first-ready, two-deep, second-ready, level, atom-derived, variable-derived, first-refusal, test-refusal, second-refusal, formable, forms-here, node-derived, NodeAt, node-case, SignAt, sign-case}
+use Rattle.typing.proofs.derive.derive.Reads as derive
+use Rattle.typing.proofs.derive.derive.Kinds as kinds
+use Rattle.typing.proofs.derive.+derive.Lts-derive as lts
+use Rattle.rules.proofs.atom.atom.Reads as atom-reads
+use Rattle.rules.proofs.enter.enter.Reads as enter-reads
+use Rattle.rules.proofs.formed.formed.Reads as formed-reads
+use Rattle.rules.proofs.scope.variable.Reads as variable-reads
+use Rattle.rules.proofs.sign.sign.Reads as sign-reads
+use Rattle.logic.proofs.word.kind.Reads as kind-reads
+use Rattle.typing.proofs.derive.+derive.{statement}
+use Rattle.typing.proofs.derive.+derive.Tie.{close}
+
+-- the nesting left
+abbrev μ-derive : Measures 4 kinds.ps ℕ
+μ-derive κs a = a .1 .1 .1 .1 .1 .1 .1 .0
+
+abbrev given : ℕ → In 4 kinds.ps
+given t = and 4 kinds.ps (is 4 kinds.ps μ-derive t) derive.Pre
+
+abbrev below : ℕ → In 4 kinds.ps
+below t = and 4 kinds.ps (falls 4 kinds.ps _<_ μ-derive t) derive.Pre
+
+-- what the code that it calls asks and tells
+abbrev calls : ℕ → lts.Claims
+calls t = (kind-reads.Asked, kind-reads.Learnt, atom-reads.Asked, atom-reads.Learnt, variable-reads.Asked, variable-reads.Learnt, below t, derive.Post, sign-reads.Asked, sign-reads.Learnt, enter-reads.Asked, enter-reads.Learnt, formed-reads.Asked, formed-reads.Learnt)
+
+-- ---- what is known at some places
+
+-- the words lent, for a term
+abbrev Here : (t : ℕ) (s : lts.Start (calls t) (given t) derive.Post) → List Term → List Term → Term → Type 0
+Here t s Σ Γ u = Ready (s .args .sig .now) (s .args .table .now) (s .args .proof .now) (s .args .ws .now) (s .args .floor) (s .args .used) (s .args .at) (s .args .left) Σ Γ u
+
+-- what it ensures of a term
+abbrev Gives : (t : ℕ) (s : lts.Start (calls t) (given t) derive.Post) → List Term → List Term → List ℕ → Derivation → Term → Type 0
+Gives t s Σ Γ new r u = Derived (infer Σ Γ (s .args .at) u) (s .args .at + size u) (s .args .used) (s .args .ws .now) new r
+
+place-within : (t : ℕ) (s : lts.Start (calls t) (given t) derive.Post) → s .args .at < length (s .args .proof .now)
+place-within t s = let a = at-end (s .pre .1 .ready .here) in let b = size-pos (s .pre .1 .term) in omega arith
+
+deep : (t : ℕ) (s : lts.Start (calls t) (given t) derive.Post) → 0 < s .args .left
+deep t s = let a = s .pre .1 .ready .deep in let b = depth-pos (s .pre .1 .term) in omega arith
+
+kind-known : (t : ℕ) (c : lts.After-kind (calls t) (given t) derive.Post) (u : Term) → At (c .before .before .before .before .before .before .args .proof .now) (c .before .before .before .before .before .before .args .at) u → c .kind .result ≡ headKind u
+kind-known t c u h = c .kind .ensures ∙ at-kind h
+
+sign-at : (t : ℕ) (c : lts.Then3 (calls t) (given t) derive.Post) → SignAt (c .before .before .before .before .before .before .before .before .before .args .sig .now) (c .before .before .before .before .before .before .before .before .before .args .table .now) (c .before .before .before .before .before .before .before .before .before .args .proof .now) (c .before .before .before .before .before .before .before .before .before .args .ws .now) (c .before .before .before .before .before .before .before .before .before .args .floor) (c .before .before .before .before .before .before .before .before .before .args .used) (c .before .before .before .before .before .before .before .before .before .args .at) (c .before .before .before .before .before .before .before .before .before .args .left) (c .before .before .before .before .before .before .before .before .before .pre .1 .Σ) (c .before .before .before .before .before .before .before .before .before .pre .1 .Γ)
+sign-at t c =
+    let p = c .before .before .before .before .before .before .before .before .before .pre .1 in
+    sign-case (c .before .before .before .kind .result) (p .term) (kind-known t (c .before .before .before) (p .term) (p .ready .here)) (c .if3 .taken) (p .ready)
+
+-- a node, of any term that stands there
+as-node : (t : ℕ) (c : lts.Else3 (calls t) (given t) derive.Post) (Σ Γ : List Term) (u : Term) (F : Term → Type 0) → Here t (c .before .before .before .before .before .before .before .before .before) Σ Γ u → ((o : Op) (a b : Term) → Here t (c .before .before .before .before .before .before .before .before .before) Σ Γ (node o a b) → F (node o a b)) → F u
+as-node t c Σ Γ u F R f = node-case (λ u. Here t (c .before .before .before .before .before .before .before .before .before) Σ Γ u → F u) u (c .before .before .before .kind .result) (kind-known t (c .before .before .before) u (R .here)) (c .before .before .if1 .left) (c .before .if2 .left) (c .if3 .left) f R
+
+abbrev NodeHere : (t : ℕ) (s : lts.Start (calls t) (given t) derive.Post) → Type 0
+NodeHere t s = NodeAt (s .args .sig .now) (s .args .table .now) (s .args .proof .now) (s .args .ws .now) (s .args .floor) (s .args .used) (s .args .at) (s .args .left) (s .pre .1 .Σ) (s .pre .1 .Γ)
+
+-- of the term that `requires` brought
+node-at : (t : ℕ) (c : lts.Else3 (calls t) (given t) derive.Post) → NodeHere t (c .before .before .before .before .before .before .before .before .before)
+node-at t c = let p = c .before .before .before .before .before .before .before .before .before .pre .1 in as-node t c (p .Σ) (p .Γ) (p .term) (λ u. NodeHere t (c .before .before .before .before .before .before .before .before .before)) (p .ready) (λ o a b R. record { o = o; a = a; b = b; ready-node = R })
+
+-- the workspace keeps its length
+mid-length : (t : ℕ) (c : lts.After-entered (calls t) (given t) derive.Post) → length (c .before .before .before .before .enter .last .1 .0) ≡ length (c .before .before .before .before .before .before .before .before .before .before .before .before .before .before .before .before .before .before .before .before .before .before .args .ws .now)
+mid-length t c = c .before .before .before .before .enter .kept .1 .0 ∙ c .before .before .before .before .before .before .before .before .before .before .before .derive2 .kept .1 .1 .1 .0
+
+module _ (t : ℕ) {Σ Γ : List Term} {o : Op} {a b : Term} where
+  -- the first child has its type
+  first-typed : (c : lts.After-first (calls t) (given t) derive.Post) → Here t (c .before .before .before .before .before .before .before .before .before .before .before .before .before .before .before) Σ Γ (node o a b) → Between (c .before .before .before .before .before .before .before .before .before .before .before .before .before .before .before .args .proof .now) (c .before .before .before .before .before .before .before .before .before .before .before .before .before .before .before .args .ws .now) (c .before .before .before .before .derive2 .last .1 .1 .1 .0) (c .before .before .before .before .before .before .before .before .before .before .before .before .before .before .before .args .used) (c .before .before .before .before .before .before .before .before .before .before .before .before .before .before .before .args .at) (c .first .given .0 .1 .0) (c .first .given .0 .0) Σ Γ o a
+  first-typed c R = between R _ (c .before .before .before .before .derive2 .result) _ _ (c .before .before .before .before .derive2 .ensures) (c .first .given .1)
+
+  -- the test on it passed
+  test-passed : (c : lts.After-entered (calls t) (given t) derive.Post) (R : Here t (c .before .before .before .before .before .before .before .before .before .before .before .before .before .before .before .before .before .before .before .before .before .before) Σ Γ (node o a b)) → Inside (c .before .before .before .before .before .before .before .before .before .before .before .derive2 .last .1 .1 .1 .0) (c .before .before .before .before .enter .last .1 .0) (c .before .before .before .before .before .before .before .before .before .before .before .before .before .before .before .before .before .before .before .before .before .before .args .used) (c .before .before .before .before .before .before .before .before .before .before .before .before .before .before .before .before .before .before .before .before .before .before .args .at) (c .before .before .before .before .before .before .before .first .given .0 .0) (c .entered .given .0 .0) (c .entered .given .0 .1 .0) o a (first-typed (c .before .before .before .before .before .before .before) R .type)
+  test-passed c R =
+      let B = first-typed (c .before .before .before .before .before .before .before) R in
+      inside o _ a (B .type) _ _ _ _ (c .before .before .before .before .enter .result) _ _ (c .before .before .before .before .enter .ensures o a (B .type) (B .enters)) (c .entered .given .1)
+
+  level-kept : (c : lts.After-entered (calls t) (given t) derive.Post) → Here t (c .before .before .before .before .before .before .before .before .before .before .before .before .before .before .before .before .before .before .before .before .before .before) Σ Γ (node o a b) → c .entered .given .0 .0 + c .entered .given .0 .1 .0 ≤ c .before .before .before .before .before .before .before .before .before .before .before .before .before .before .before .before .before .before .before .before .before .before .args .used + level-words
+  level-kept c R = let p = c .before .before .before .before .before .before .before .before .before .before .before .before .before .before .before .before .before .before .before .before .before .before .pre .1 in level R _ _ _ _ _ _ (first-typed (c .before .before .before .before .before .before .before) R) (test-passed c R) (p .below) (mid-length t c) (p .room)
+
+  second-ready-here : (c : lts.After-entered (calls t) (given t) derive.Post) (R : Here t (c .before .before .before .before .before .before .before .before .before .before .before .before .before .before .before .before .before .before .before .before .before .before) Σ Γ (node o a b)) → Ready (c .before .before .before .before .before .before .before .before .before .before .before .before .before .before .before .before .before .before .before .before .before .before .args .sig .now) (c .before .before .before .before .before .before .before .before .before .before .before .before .before .before .before .before .before .before .before .before .before .before .args .table .now) (c .before .before .before .before .before .before .before .before .before .before .before .before .before .before .before .before .before .before .before .before .before .before .args .proof .now) (rest-of (c .entered .given .0 .0) (c .before .before .before .before .enter .last .1 .0)) (c .before .before .before .before .before .before .before .before .before .before .before .before .before .before .before .before .before .before .before .before .before .before .args .floor) (c .entered .given .0 .1 .0) (c .before .before .before .before .before .before .before .first .given .0 .1 .0) (c .before .before .before .before .before .before .before .before .before .before .before .before .before .before .before .before .before .before .before .before .before .before .args .left - 1) Σ (within o a (first-typed (c .before .before .before .before .before .before .before) R .type) Γ) b
+  second-ready-here c R = let p = c .before .before .before .before .before .before .before .before .before .before .before .before .before .before .before .before .before .before .before .before .before .before .pre .1 in second-ready R _ _ _ _ _ _ (first-typed (c .before .before .before .before .before .before .before) R) (test-passed c R) (p .below) (mid-length t c) (p .room)
+
+mul-word : (t : ℕ) → lts.Need-mul-word (calls t) (given t) derive.Post
+mul-word t c = let r = place-within t (c .before .before .before .before) in omega arith
+
+shared-slice-read-word : (t : ℕ) → lts.Need-shared-slice-read-word (calls t) (given t) derive.Post
+shared-slice-read-word t c = let r = place-within t (c .before .before .before .before .before) in omega arith
+
+kind-requires : (t : ℕ) → lts.Need-kind-requires (calls t) (given t) derive.Post
+kind-requires t c κs = search needs
+
+atom-requires : (t : ℕ) → lts.Need-atom-requires (calls t) (given t) derive.Post
+atom-requires t c κs = let p = c .before .before .before .before .before .before .before .before .pre .1 in record { Σ = p .Σ; declared = p .ready .declared; room = omega (arith, p .room); place = omega (arith, p .short, place-within t (c .before .before .before .before .before .before .before .before)) }
+
+same-length : (t : ℕ) → lts.Need-same-length (calls t) (given t) derive.Post
+same-length t c = search needs
+
+returns : (t : ℕ) → lts.Need-returns (calls t) (given t) derive.Post
+returns t c =
+    let s = c .before .before .before .before .before .before .before .before .before .before .before in
+    λ Σ Γ u R. atom-derived (c .before .before .before .before .before .kind .result) _ (c .before .before .atom .result) (c .before .before .atom .kept .1 .1 .0) (omega (arith, s .pre .1 .room)) u (c .before .before .before .before .if1 .taken) (kind-known t (c .before .before .before .before .before) u (R .here)) R (c .before .before .atom .ensures)
+
+variable-requires : (t : ℕ) → lts.Need-variable-requires (calls t) (given t) derive.Post
+variable-requires t c κs =
+    let p = c .before .before .before .before .before .before .before .before .before .pre .1 in
+    record { Γ = p .Γ; binders = p .ready .binders; few = omega (arith, p .ready .few); number = omega arith; below = p .below; room = omega (arith, p .room); place = omega (arith, p .short, place-within t (c .before .before .before .before .before .before .before .before .before)) }
+
+same-length-2 : (t : ℕ) → lts.Need-same-length-2 (calls t) (given t) derive.Post
+same-length-2 t c = search needs
+
+returns-2 : (t : ℕ) → lts.Need-returns-2 (calls t) (given t) derive.Post
+returns-2 t c =
+    let s = c .before .before .before .before .before .before .before .before .before .before .before .before in
+    λ Σ Γ u R. variable-derived (c .before .before .before .before .before .before .kind .result) _ (c .before .before .variable .result) (c .before .before .variable .kept .1 .0) (omega (arith, s .pre .1 .room)) u (c .before .before .before .before .if2 .taken) (kind-known t (c .before .before .before .before .before .before) u (R .here)) R (c .before .before .variable .ensures)
+
+add-derive : (t : ℕ) → lts.Need-add-derive (calls t) (given t) derive.Post
+add-derive t c = let r = place-within t (c .before .before .before .before .before .before .before .before .before .before) in omega arith
+
+sub-derive : (t : ℕ) → lts.Need-sub-derive (calls t) (given t) derive.Post
+sub-derive t c = let r = deep t (c .before .before .before .before .before .before .before .before .before .before) in omega arith
+
+derive-requires : (t : ℕ) → lts.Need-derive-requires (calls t) (given t) derive.Post
+derive-requires t c κs =
+    let s = c .before .before .before .before .before .before .before .before .before .before in
+    let p = s .pre .1 in
+    let S = sign-at t (c .before) in
+    let d = deep t s in
+    (omega arith, record { Σ = p .Σ; Γ = []; term = S .q; ready = sign-ready (S .ready-sign); short = p .short; below = omega arith; room = omega (arith, p .room) })
+
+enum-known-inner : (t : ℕ) → lts.Need-enum-known-inner (calls t) (given t) derive.Post
+enum-known-inner t c = search needs
+
+enum-told : (t : ℕ) → lts.Need-enum-told (calls t) (given t) derive.Post
+enum-told t c = search needs
+
+same-length-3 : (t : ℕ) → lts.Need-same-length-3 (calls t) (given t) derive.Post
+same-length-3 t c = search needs
+
+returns-3 : (t : ℕ) → lts.Need-returns-3 (calls t) (given t) derive.Post
+returns-3 t c =
+    let s = c .before .before .before .before .before .before .before .before .before .before .before .before .before .before .before in
+    λ Σ Γ u R. sign-refused (c .before .before .before .before .before .before .before .before .before .kind .result) _ (c .before .before .before .before .derive .result) (c .before .before .before .before .derive .kept .1 .1 .1 .0) (omega (arith, s .pre .1 .room)) u _ _ (c .before .before .before .before .before .before .if3 .taken) (kind-known t (c .before .before .before .before .before .before .before .before .before) u (R .here)) R (c .before .before .before .before .derive .ensures) (c .enum-told .given .1)
+
+sign-requires : (t : ℕ) → lts.Need-sign-requires (calls t) (given t) derive.Post
+sign-requires t c κs =
+    let s = c .before .before .before .before .before .before .before .before .before .before .before .before .before .before .before .before .before in
+    let p = s .pre .1 in
+    let S = signed-in (p .term) (c .before .before .before .before .before .before .before .before .before .before .before .kind .result) _ (c .before .before .before .before .before .before .derive .result) _ _ (c .before .before .before .before .before .before .before .before .if3 .taken) (kind-known t (c .before .before .before .before .before .before .before .before .before .before .before) (p .term) (p .ready .here)) (p .ready) (c .before .before .before .before .before .before .derive .ensures) (c .before .before .inner .given .1) in
+    record { a = S .a; q = S .q; s = S .s; signs = S .signs; short = p .short; room = omega (arith, p .room, c .before .before .before .before .before .before .derive .kept .1 .1 .1 .0) }
+
+same-length-4 : (t : ℕ) → lts.Need-same-length-4 (calls t) (given t) derive.Post
+same-length-4 t c = c .before .before .sign .kept .1 .0 ∙ c .before .before .before .before .before .before .before .before .before .derive .kept .1 .1 .1 .0
+
+returns-4 : (t : ℕ) → lts.Need-returns-4 (calls t) (given t) derive.Post
+returns-4 t c =
+    let s = c .before .before .before .before .before .before .before .before .before .before .before .before .before .before .before .before .before .before .before .before in
+    λ Σ Γ u R. let S = signed-in u (c .before .before .before .before .before .before .before .before .before .before .before .before .before .before .kind .result) _ (c .before .before .before .before .before .before .before .before .before .derive .result) _ _ (c .before .before .before .before .before .before .before .before .before .before .before .if3 .taken) (kind-known t (c .before .before .before .before .before .before .before .before .before .before .before .before .before .before) u (R .here)) R (c .before .before .before .before .before .before .before .before .before .derive .ensures) (c .before .before .before .before .before .inner .given .1) in
+    sign-derived S _ (c .before .before .sign .result) (c .before .before .sign .kept .1 .0) (omega (arith, s .pre .1 .room, c .before .before .before .before .before .before .before .before .before .derive .kept .1 .1 .1 .0)) (c .before .before .sign .ensures (S .a) (S .q) (S .s) (S .signs))
+
+add-derive-2 : (t : ℕ) → lts.Need-add-derive-2 (calls t) (given t) derive.Post
+add-derive-2 t c = let r = place-within t (c .before .before .before .before .before .before .before .before .before .before) in omega arith
+
+sub-derive-2 : (t : ℕ) → lts.Need-sub-derive-2 (calls t) (given t) derive.Post
+sub-derive-2 t c = let r = deep t (c .before .before .before .before .before .before .before .before .before .before) in omega arith
+
+derive-requires-2 : (t : ℕ) → lts.Need-derive-requires-2 (calls t) (given t) derive.Post
+derive-requires-2 t c κs =
+    let s = c .before .before .before .before .before .before .before .before .before .before in
+    let p = s .pre .1 in
+    let M = node-at t (c .before) in
+    let d = deep t s in
+    (omega arith, record { Σ = p .Σ; Γ = p .Γ; term = M .a; ready = first-ready (M .ready-node); short = p .short; below = p .below; room = omega (arith, p .room) })
+
+enum-known-first : (t : ℕ) → lts.Need-enum-known-first (calls t) (given t) derive.Post
+enum-known-first t c = search needs
+
+enum-told-2 : (t : ℕ) → lts.Need-enum-told-2 (calls t) (given t) derive.Post
+enum-told-2 t c = search needs
+
+same-length-5 : (t : ℕ) → lts.Need-same-length-5 (calls t) (given t) derive.Post
+same-length-5 t c = search needs
+
+returns-5 : (t : ℕ) → lts.Need-returns-5 (calls t) (given t) derive.Post
+returns-5 t c =
+    λ Σ Γ u R. as-node t (c .before .before .before .before .before .before) Σ Γ u (Gives t (c .before .before .before .before .before .before .before .before .before .before .before .before .before .before .before) Σ Γ (c .before .before .before .before .derive2 .last .1 .1 .1 .0) (c .before .before .before .before .derive2 .result)) R (λ o a b R. first-refusal _ (c .before .before .before .before .derive2 .result) _ _ R (c .before .before .before .before .derive2 .ensures) (c .enum-told2 .given .1))
+
+enter-requires : (t : ℕ) → lts.Need-enter-requires (calls t) (given t) derive.Post
+enter-requires t c κs =
+    let s = c .before .before .before .before .before .before .before .before .before .before .before .before .before .before .before .before .before in
+    let p = s .pre .1 in
+    let M = node-at t (c .before .before .before .before .before .before .before .before) in
+    let B = first-typed t (c .before .before) (M .ready-node) in
+    let d = two-deep (M .ready-node) in
+    record { o = M .o; a = M .a; A = B .type; enters = B .enters; small = omega (arith, B .enters .type-words, B .small); short = p .short; room = omega (arith, p .room, d, c .before .before .before .before .before .before .derive2 .kept .1 .1 .1 .0) }
+
+enum-known-entered : (t : ℕ) → lts.Need-enum-known-entered (calls t) (given t) derive.Post
+enum-known-entered t c = search needs
+
+enum-told-3 : (t : ℕ) → lts.Need-enum-told-3 (calls t) (given t) derive.Post
+enum-told-3 t c = search needs
+
+same-length-6 : (t : ℕ) → lts.Need-same-length-6 (calls t) (given t) derive.Post
+same-length-6 t c = search needs
+
+returns-6 : (t : ℕ) → lts.Need-returns-6 (calls t) (given t) derive.Post
+returns-6 t c =
+    λ Σ Γ u R. as-node t (c .before .before .before .before .before .before .before .before .before .before .before .before .before) Σ Γ u (Gives t (c .before .before .before .before .before .before .before .before .before .before .before .before .before .before .before .before .before .before .before .before .before .before) Σ Γ (c .before .before .before .before .enter .last .1 .0) (Refused condition-fails (c .before .before .before .before .before .before .before .before .before .before .before .before .before .before .before .before .before .before .before .before .before .before .args .at))) R (λ o a b R. let B = first-typed t (c .before .before .before .before .before .before .before) R in
+    test-refusal _ _ _ _ R B (c .before .before .before .before .enter .result) (c .before .before .before .before .enter .ensures o a (B .type) (B .enters)) (c .enum-told3 .given .1))
+
+mul-derive : (t : ℕ) → lts.Need-mul-derive (calls t) (given t) derive.Post
+mul-derive t c =
+    let s = c .before .before .before .before .before .before .before .before .before .before .before .before .before .before .before .before .before .before .before .before .before .before .before in
+    let M = node-at t (c .before .before .before .before .before .before .before .before .before .before .before .before .before .before) in
+    omega (arith, level-kept t (c .before) (M .ready-node), two-deep (M .ready-node), s .pre .1 .room, mid-length t (c .before), s .good .1 .1 .1 .0)
+
+sub-derive-3 : (t : ℕ) → lts.Need-sub-derive-3 (calls t) (given t) derive.Post
+sub-derive-3 t c =
+    let s = c .before .before .before .before .before .before .before .before .before .before .before .before .before .before .before .before .before .before .before .before .before .before .before in
+    let M = node-at t (c .before .before .before .before .before .before .before .before .before .before .before .before .before .before) in
+    omega (arith, level-kept t (c .before) (M .ready-node), two-deep (M .ready-node), s .pre .1 .room, mid-length t (c .before))
+
+part-derive-start : (t : ℕ) → lts.Need-part-derive-start (calls t) (given t) derive.Post
+part-derive-start t c =
+    let s = c .before .before .before .before .before .before .before .before .before .before .before .before .before .before .before .before .before .before .before .before .before .before .before in
+    let M = node-at t (c .before .before .before .before .before .before .before .before .before .before .before .before .before .before) in
+    omega (arith, level-kept t (c .before) (M .ready-node), two-deep (M .ready-node), s .pre .1 .room, mid-length t (c .before))
+
+part-derive-end : (t : ℕ) → lts.Need-part-derive-end (calls t) (given t) derive.Post
+part-derive-end t c = search needs
+
+sub-derive-4 : (t : ℕ) → lts.Need-sub-derive-4 (calls t) (given t) derive.Post
+sub-derive-4 t c = let r = deep t (c .before .before .before .before .before .before .before .before .before .before .before .before .before .before .before .before .before .before .before .before .before .before .before .before) in omega arith
+
+derive-requires-3 : (t : ℕ) → lts.Need-derive-requires-3 (calls t) (given t) derive.Post
+derive-requires-3 t c κs =
+    let s = c .before .before .before .before .before .before .before .before .before .before .before .before .before .before .before .before .before .before .before .before .before .before .before .before in
+    let p = s .pre .1 in
+    let M = node-at t (c .before .before .before .before .before .before .before .before .before .before .before .before .before .before .before) in
+    let R = M .ready-node in
+    let I = test-passed t (c .before .before) R in
+    (omega (arith, two-deep R, s .pre .0), record { Σ = p .Σ; Γ = _; term = M .b; ready = second-ready-here t (c .before .before) R; short = p .short; below = omega (arith, p .below, I .kept-is); room = omega (arith, p .room, two-deep R, level-kept t (c .before .before) R, mid-length t (c .before .before), rest-length (c .before .before .entered .given .0 .0) (c .before .before .before .before .before .before .enter .last .1 .0)) })
+
+enum-known-second : (t : ℕ) → lts.Need-enum-known-second (calls t) (given t) derive.Post
+enum-known-second t c = search needs
+
+enum-told-4 : (t : ℕ) → lts.Need-enum-told-4 (calls t) (given t) derive.Post
+enum-told-4 t c = search needs
+
+same-length-7 : (t : ℕ) → lts.Need-same-length-7 (calls t) (given t) derive.Post
+same-length-7 t c = search needs
+
+returns-7 : (t : ℕ) → lts.Need-returns-7 (calls t) (given t) derive.Post
+returns-7 t c =
+    let p = c .before .before .before .before .before .before .before .before .before .before .before .before .before .before .before .before .before .before .before .before .before .before .before .before .before .before .before .before .before .pre .1 in
+    λ Σ Γ u R. as-node t (c .before .before .before .before .before .before .before .before .before .before .before .before .before .before .before .before .before .before .before .before) Σ Γ u (Gives t (c .before .before .before .before .before .before .before .before .before .before .before .before .before .before .before .before .before .before .before .before .before .before .before .before .before .before .before .before .before) Σ Γ (whole-of (c .before .before .before .before .before .before .before .entered .given .0 .0) (c .before .before .before .before .before .before .before .before .before .before .before .enter .last .1 .0) (c .before .before .before .before .derive3 .last .1 .1 .1 .0)) (c .before .before .before .before .derive3 .result)) R (λ o a b R. second-refusal R _ _ _ _ _ _ (first-typed t (c .before .before .before .before .before .before .before .before .before .before .before .before .before .before) R) (test-passed t (c .before .before .before .before .before .before .before) R) (p .below) (mid-length t (c .before .before .before .before .before .before .before)) (p .room) _ (c .before .before .before .before .derive3 .result) (c .before .before .before .before .derive3 .kept .1 .1 .1 .0) (c .before .before .before .before .derive3 .ensures) _ _ (c .enum-told4 .given .1))
+
+formed-requires : (t : ℕ) → lts.Need-formed-requires (calls t) (given t) derive.Post
+formed-requires t c κs =
+    let p = c .before .before .before .before .before .before .before .before .before .before .before .before .before .before .before .before .before .before .before .before .before .before .before .before .before .before .before .before .before .before .before .pre .1 in
+    let M = node-at t (c .before .before .before .before .before .before .before .before .before .before .before .before .before .before .before .before .before .before .before .before .before .before) in
+    let R = M .ready-node in
+    formable R _ _ _ _ _ _ (first-typed t (c .before .before .before .before .before .before .before .before .before .before .before .before .before .before .before .before) R) (test-passed t (c .before .before .before .before .before .before .before .before .before) R) (p .below) (mid-length t (c .before .before .before .before .before .before .before .before .before)) (p .room) _ (c .before .before .before .before .before .before .derive3 .result) (c .before .before .before .before .before .before .derive3 .kept .1 .1 .1 .0) (c .before .before .before .before .before .before .derive3 .ensures) _ _ (c .before .before .second .given .1) (p .short)
+
+same-length-8 : (t : ℕ) → lts.Need-same-length-8 (calls t) (given t) derive.Post
+same-length-8 t c = search needs
+
+returns-8 : (t : ℕ) → lts.Need-returns-8 (calls t) (given t) derive.Post
+returns-8 t c =
+    let p = c .before .before .before .before .before .before .before .before .before .before .before .before .before .before .before .before .before .before .before .before .before .before .before .before .before .before .before .before .before .before .before .before .before .before .pre .1 in
+    λ Σ Γ u R. as-node t (c .before .before .before .before .before .before .before .before .before .before .before .before .before .before .before .before .before .before .before .before .before .before .before .before .before) Σ Γ u (Gives t (c .before .before .before .before .before .before .before .before .before .before .before .before .before .before .before .before .before .before .before .before .before .before .before .before .before .before .before .before .before .before .before .before .before .before) Σ Γ (c .before .before .formed .last .1 .0) (c .before .before .formed .result)) R (λ o a b R.
+    node-derived R _ _ _ _ _ _ (first-typed t (c .before .before .before .before .before .before .before .before .before .before .before .before .before .before .before .before .before .before .before) R) (test-passed t (c .before .before .before .before .before .before .before .before .before .before .before .before) R) (p .below) (mid-length t (c .before .before .before .before .before .before .before .before .before .before .before .before)) (p .room) _ (c .before .before .before .before .before .before .before .before .before .derive3 .result) (c .before .before .before .before .before .before .before .before .before .derive3 .kept .1 .1 .1 .0) (c .before .before .before .before .before .before .before .before .before .derive3 .ensures) _ _ (c .before .before .before .before .before .second .given .1) _ (c .before .before .formed .result) (c .before .before .formed .kept .1 .0)
+    (c .before .before .formed .ensures o a b _ _ (forms-here R _ _ _ _ _ _ (first-typed t (c .before .before .before .before .before .before .before .before .before .before .before .before .before .before .before .before .before .before .before) R) (test-passed t (c .before .before .before .before .before .before .before .before .before .before .before .before) R) (p .below) (mid-length t (c .before .before .before .before .before .before .before .before .before .before .before .before)) (p .room) _ (c .before .before .before .before .before .before .before .before .before .derive3 .result) (c .before .before .before .before .before .before .before .before .before .derive3 .kept .1 .1 .1 .0) (c .before .before .before .before .before .before .before .before .before .derive3 .ensures) _ _ (c .before .before .before .before .before .second .given .1))))
+
+pub +derive-spec : {M : Type 1} → statement M
++derive-spec = close μ-derive λ t. lts.spec (calls t)
+    (given t)
+    derive.Post
+    (mul-word t)
+    (shared-slice-read-word t)
+    (kind-requires t)
+    (atom-requires t)
+    (same-length t)
+    (returns t)
+    (variable-requires t)
+    (same-length-2 t)
+    (returns-2 t)
+    (add-derive t)
+    (sub-derive t)
+    (derive-requires t)
+    (enum-known-inner t)
+    (enum-told t)
+    (same-length-3 t)
+    (returns-3 t)
+    (sign-requires t)
+    (same-length-4 t)
+    (returns-4 t)
+    (add-derive-2 t)
+    (sub-derive-2 t)
+    (derive-requires-2 t)
+    (enum-known-first t)
+    (enum-told-2 t)
+    (same-length-5 t)
+    (returns-5 t)
+    (enter-requires t)
+    (enum-known-entered t)
+    (enum-told-3 t)
+    (same-length-6 t)
+    (returns-6 t)
+    (mul-derive t)
+    (sub-derive-3 t)
+    (part-derive-start t)
+    (part-derive-end t)
+    (sub-derive-4 t)
+    (derive-requires-3 t)
+    (enum-known-second t)
+    (enum-told-4 t)
+    (same-length-7 t)
+    (returns-7 t)
+    (formed-requires t)
+    (same-length-8 t)
+    (returns-8 t)

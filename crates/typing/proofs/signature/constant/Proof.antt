@@ -1,0 +1,122 @@
+use Prim.Native.Nat.{ℕ, _+_, _-_}
+use mathlib.Core.Path.{_≡_, refl, subst}
+use mathlib.Core.List.{List}
+use lib.ListN.{length, take, drop, getD}
+use Rattle.logic.specs.Limits.{most-words, most-nesting}
+use Rattle.logic.specs.Term.{Term, kindPA}
+use Rattle.typing.specs.Check.{Constants-of, typed-term, Judged}
+use Rattle.typing.proofs.Listings.{no-words, too-many, cut-off, not-typed, typed-kind}
+use native.Mathlib.Omega.{arith}
+use borrow.Author.Needs.{needs}
+use Rattle.typing.proofs.signature.constant.Statement.{statement}
+use Rattle.typing.proofs.signature.constant.Tie as tie
+use Rattle.typing.proofs.signature.constant.Reads as reads
+use Rattle.typing.proofs.signature.constant.Lts as lts
+use Rattle.typing.proofs.check.check_term.Reads as check-term-reads
+use Rattle.rules.proofs.front.front_is.Reads as front-is-reads
+
+-- what the check of the constant's words tells
+judged : (c : tie.After-check-term) (Σ : List Term) → Constants-of (c .before .before .before .before .before .before .before .before .before .before .args .sig .now) (c .before .before .before .before .before .before .before .before .before .before .args .table .now) Σ
+    → Judged (typed-term Σ most-words most-nesting (take (getD (c .before .before .before .before .before .before .before .before .before .before .args .sig .now) (c .before .before .before .before .before .before .before .before .before .before .args .at) 0) (drop (c .before .before .before .before .before .before .before .before .before .before .args .at + 1) (c .before .before .before .before .before .before .before .before .before .before .args .sig .now)))) (length (take (c .before .before .before .before .before .before .before .before .before .before .args .at + 1 + getD (c .before .before .before .before .before .before .before .before .before .before .args .sig .now) (c .before .before .before .before .before .before .before .before .before .before .args .at) 0 - (c .before .before .before .before .before .before .before .before .before .before .args .at + 1)) (drop (c .before .before .before .before .before .before .before .before .before .before .args .at + 1) (c .before .before .before .before .before .before .before .before .before .before .args .sig .now)))) (c .check-term .last .1 .1 .1 .1 .1 .0) (c .check-term .result)
+judged c Σ C =
+    let s = c .before .before .before .before .before .before .before .before .before .before .args in
+    let e : s .at + 1 + getD (s .sig .now) (s .at) 0 - (s .at + 1) ≡ getD (s .sig .now) (s .at) 0 = omega arith in
+    subst (λ (i : ℕ). Judged (typed-term Σ most-words most-nesting (take i (drop (s .at + 1) (s .sig .now)))) (length (take (s .at + 1 + getD (s .sig .now) (s .at) 0 - (s .at + 1)) (drop (s .at + 1) (s .sig .now)))) (c .check-term .last .1 .1 .1 .1 .1 .0) (c .check-term .result)) e (c .check-term .ensures Σ C)
+
+mul-n : tie.Need-mul-n
+mul-n c = search needs
+
+shared-slice-read-n : tie.Need-shared-slice-read-n
+shared-slice-read-n c = search needs
+
+cast-n : tie.Need-cast-n
+cast-n c = omega (arith, c .shared-slice-known3 .given (c .before .before .before .before .args .at))
+
+returns : tie.Need-returns
+returns c = let s = c .before .before .before .before .before in λ Σ C. no-words Σ (s .args .sig .now) (s .args .at) (s .pre .inside) (c .if1 .taken)
+
+returns-2 : tie.Need-returns-2
+returns-2 c = let s = c .before .before .before .before .before .before in λ Σ C. too-many Σ (s .args .sig .now) (s .args .at) (s .pre .inside) (c .if2 .taken)
+
+add-start : tie.Need-add-start
+add-start c = search needs
+
+sub-if3 : tie.Need-sub-if3
+sub-if3 c = search needs
+
+returns-3 : tie.Need-returns-3
+returns-3 c = let s = c .before .before .before .before .before .before .before in λ Σ C. cut-off Σ (s .args .sig .now) (s .args .at) (s .pre .inside) (c .if3 .taken)
+
+add-check-term : tie.Need-add-check-term
+add-check-term c = search needs
+
+mul-check-term : tie.Need-mul-check-term
+mul-check-term c = search needs
+
+sub-check-term : tie.Need-sub-check-term
+sub-check-term c = search needs
+
+part-check-term-start : tie.Need-part-check-term-start
+part-check-term-start c = search needs
+
+part-check-term-end : tie.Need-part-check-term-end
+part-check-term-end c = search needs
+
+check-term-requires : tie.Need-check-term-requires
+check-term-requires c κs = search needs
+
+enum-told : tie.Need-enum-told
+enum-told c = search needs
+
+enum-known-typed : tie.Need-enum-known-typed
+enum-known-typed c = search needs
+
+mul-front-is : tie.Need-mul-front-is
+mul-front-is c = search needs
+
+front-is-requires : tie.Need-front-is-requires
+front-is-requires c κs = search needs
+
+same-length : tie.Need-same-length
+same-length c = search needs
+
+returns-4 : tie.Need-returns-4
+returns-4 c =
+    let s = c .before .before .before .before .before .before .before .before .before .before .before .before .before .before in
+    λ Σ C. not-typed Σ (s .args .sig .now) (s .args .at) (s .pre .inside) (c .before .before .before .before .before .before .before .before .before .if1 .left) (c .before .before .before .before .before .before .before .before .if2 .left) (c .before .before .before .before .before .before .before .if3 .left) _ (c .before .before .before .before .check-term .result) _ _ _ (judged (c .before .before .before .before) Σ C) (c .enum-told .given .1)
+
+same-length-2 : tie.Need-same-length-2
+same-length-2 c = search needs
+
+returns-5 : tie.Need-returns-5
+returns-5 c =
+    let s = c .before .before .before .before .before .before .before .before .before .before .before .before .before .before .before .before .before in
+    λ Σ C. typed-kind Σ (s .args .sig .now) (s .args .at) (s .pre .inside) (c .before .before .before .before .before .before .before .before .before .before .before .before .if1 .left) (c .before .before .before .before .before .before .before .before .before .before .before .if2 .left) (c .before .before .before .before .before .before .before .before .before .before .if3 .left) _ (c .before .before .before .before .before .before .before .check-term .result) _ _ _ (c .front-is .result) (judged (c .before .before .before .before .before .before .before) Σ C) (c .before .before .before .typed .given .1)
+    (λ A h e. c .front-is .ensures A kindPA h e refl tt)
+
+pub constant-spec : {M : Type 1} → statement M
+constant-spec =
+    tie.close
+    (tie.spec
+    mul-n
+    shared-slice-read-n
+    cast-n
+    returns
+    returns-2
+    add-start
+    sub-if3
+    returns-3
+    add-check-term
+    mul-check-term
+    sub-check-term
+    part-check-term-start
+    part-check-term-end
+    check-term-requires
+    enum-told
+    enum-known-typed
+    mul-front-is
+    front-is-requires
+    same-length
+    returns-4
+    same-length-2
+    returns-5)

@@ -1,0 +1,65 @@
+// The signature list: a length word and a type for each constant.
+use crate::check::check_term;
+use rules::derivation::Derivation;
+use rules::front::front_is;
+use logic::word::PAYLOADS;
+ghost use mathlib.Core.Path.{_≡_};
+ghost use mathlib.Core.List.{List};
+ghost use lib.ListN.{drop};
+ghost use Rattle.logic.specs.Term.{Term};
+ghost use Rattle.logic.specs.SignatureList.{signature};
+ghost use Rattle.typing.specs.Check.{Constants-of, constant-at, Listable, Read-as, Readable};
+
+// How many constants a signature has that is accepted, or the place of the first bad constant's length word.
+pub enum Listed {
+    Accepted { count: usize },
+    Bad { place: usize },
+}
+
+// Whether the list goes on at `at` with a length word of 1 to 256 and as many words of a type that passes the check with type KindP.
+fn constant(sig: &[u32], table: &[u32], at: usize, ws: &mut [u32]) -> bool
+    requires { ⌜ Listable (now sig) (now table) (now ws) at ⌝ }
+    ensures { λ r. ⌜ ((Σ : List Term) → Constants-of (now (sig .entry)) (now (table .entry)) Σ → r ≡ constant-at Σ (drop at (now (sig .entry)))) ⌝ }
+{
+    let n = sig[at] as usize;
+    if n < 1 {
+        return false;
+    }
+    if 256 < n {
+        return false;
+    }
+    let start = at + 1;
+    if sig.len() - start < n {
+        return false;
+    }
+    let typed = check_term(sig, table, &sig[start..start + n], 2048, 32, ws);
+    match typed {
+        Derivation::Refused {
+            number: _,
+            place: _,
+        } => false,
+        Derivation::Typed { words, end: _ } => front_is(&ws[..], words, 16 * PAYLOADS),
+    }
+}
+
+// Reads the signature list: the table gets the place of each constant's type.
+pub fn read_signature(sig: &[u32], table: &mut [u32], ws: &mut [u32]) -> Listed
+    requires { ⌜ Readable (now table) (now ws) ⌝ }
+    ensures { λ r. ⌜ Read-as (signature (now (sig .entry))) (now (sig .entry)) (now (table .exit)) r ⌝ }
+{
+    let mut at: usize = 0;
+    let mut count: usize = 0;
+    while at < sig.len() {
+        if 256 <= count {
+            return Listed::Bad { place: at };
+        }
+        let fine = constant(sig, &table[..count], at, ws);
+        if !fine {
+            return Listed::Bad { place: at };
+        }
+        table[count] = (at + 1) as u32;
+        at = at + 1 + sig[at] as usize;
+        count += 1;
+    }
+    Listed::Accepted { count }
+}
