@@ -68,8 +68,8 @@ kind-table t p =
     row t p tag-ret _ _ (bare-kind (eqb p 0) _) λ n14. row t p tag-bind _ _ (bare-kind (eqb p 0) _) λ n15.
     simp (n5, n13, n6, n11, n12, n8, n9, n15)
     (last t (eqb p 0) (ltb t tag-prop) (leb t tag-prin) (leb t tag-bind) refl refl refl
-    (λ l m. let h = above t 4 (above t 3 (above t 2 (above t 1 l n1) n2) n3) n4 in omega arith)
-    (λ l m. let h = above t 15 (above t 14 (above t 13 (above t 12 (above t 11 (above t 10 (above t 9 (above t 8 (above t 7 (above t 6 (above t 5 l n5) n6) n7) n8) n9) n10) n11) n12) n13) n14) n15 in omega arith))
+    (λ l m. let h = above t tag-prin (above t tag-string (above t tag-type (above t tag-prop l n1) n2) n3) n4 in omega arith)
+    (λ l m. let h = above t tag-bind (above t tag-ret (above t tag-sign (above t tag-name (above t tag-text (above t tag-app (above t tag-lam (above t tag-pi (above t tag-says (above t tag-constant (above t tag-variable l n5) n6) n7) n8) n9) n10) n11) n12) n13) n14) n15 in omega arith))
 
 -- what the code's tests come to
 pub kind-is : (w tag p r : ℕ) → tag ≡ tag-of w → p ≡ payload-of w → kindBy tag p ≡ r → r ≡ kindOf (shape w)

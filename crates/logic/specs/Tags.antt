@@ -1,4 +1,4 @@
--- Document 01's tags, by name. Each number of the format stands here once.
+-- Document 01's tags, by name. No other definition has a tag's number.
 use Prim.Native.Nat.{ℕ}
 
 abbrev pub tag-prop : ℕ
