@@ -1,0 +1,5 @@
+-- Laws of records in words, one for each step of the code.
+pub mod Walks
+pub mod Stands
+pub mod Adds
+pub mod Writes
