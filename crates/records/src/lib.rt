@@ -1,5 +1,6 @@
 // The register's records, read, searched and written.
 pub mod format;
+pub mod opening;
 pub mod read;
 pub mod rules;
 pub mod search;
