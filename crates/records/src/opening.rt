@@ -16,7 +16,8 @@ ghost use Rattle.logic.specs.Reading.{first-unheld};
 ghost use Rattle.words.specs.Place.{Is};
 ghost use Rattle.register.specs.Records.{header, words-of, held, statement, rule-kind};
 ghost use Rattle.register.specs.Records.{states as statesOf};
-ghost use Rattle.records.specs.Answers.{IsTerm, WholeRules, rules-of, unheldOf};
+ghost use Rattle.register.specs.History.{rules-of};
+ghost use Rattle.records.specs.Answers.{IsTerm, WholeRules, unheldOf};
 
 // Whether a rule of this principal with these words is the statement sought.
 pub fn rule_states(of: u32, rule: &[u32], principal: u32, words: &[u32]) -> bool

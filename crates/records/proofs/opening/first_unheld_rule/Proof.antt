@@ -8,7 +8,7 @@ use borrow.Author.Tests.{not-true, not-false}
 use Rattle.words.specs.Place.{Stands}
 use Rattle.words.proofs.Places.{at-end}
 use Rattle.records.proofs.Scans.{Scanning, scanning-start, scanning-other, scanning-sign, scanning-next, scanning-found, scanning-end}
-use Rattle.records.specs.Answers.{rules-of}
+use Rattle.register.specs.History.{rules-of}
 use Rattle.records.proofs.RuleList.{Gives, given-held}
 use Rattle.records.proofs.opening.first_unheld_rule.Statement.{statement}
 use Rattle.records.proofs.opening.first_unheld_rule.Tie as tie
