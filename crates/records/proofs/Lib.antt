@@ -1,0 +1,8 @@
+-- Laws of records in words, one for each step of the code.
+pub mod Walks
+pub mod Stands
+pub mod Scans
+pub mod Adds
+pub mod RuleList
+pub mod Openings
+pub mod Writes

@@ -1,0 +1,125 @@
+use Prim.Native.Nat.{_-_, _≤_}
+use mathlib.Core.Path.{_∙_, sym}
+use native.Mathlib.Omega.{arith}
+use lib.ListN.{length}
+use lib.Seq.{length-take-le}
+use borrow.Author.Needs.{needs}
+use borrow.Author.Tests.{not-true, not-false}
+use Rattle.records.proofs.RuleList.{Within, Counting, counting-start, counting-within, counting-held, counting-added, counting-end}
+use Rattle.records.proofs.opening.opening_words.Statement.{statement}
+use Rattle.records.proofs.opening.opening_words.Tie as tie
+
+abbrev Inv-loop : tie.InvT-loop
+Inv-loop rules total₀ at₀ total at = (at ≤ length rules) × Counting rules at total
+
+abbrev μ-loop : tie.MeasureT-loop
+μ-loop rules total₀ at₀ total at = length rules - at
+
+loop-holds : tie.Need-loop-holds Inv-loop μ-loop
+loop-holds c = (omega arith, counting-start (c .before .args .rules .now) (c .before .pre))
+
+-- the rule at hand stands whole in the list
+within : (c : tie.In-loop Inv-loop μ-loop) → Within (c .before .before .before .args .rules .now) (c .before .loop .at)
+within c = let l = c .before .loop in counting-within (c .before .before .before .args .rules .now) (l .at) (l .total) (l .inv .1) (c .loop-test .taken)
+
+add-n : tie.Need-add-n Inv-loop μ-loop
+add-n c = let w = within c in omega arith
+
+mul-n : tie.Need-mul-n Inv-loop μ-loop
+mul-n c = let w = within c in omega arith
+
+shared-slice-read-n : tie.Need-shared-slice-read-n Inv-loop μ-loop
+shared-slice-read-n c = let w = within (c .before) in omega arith
+
+cast-n : tie.Need-cast-n Inv-loop μ-loop
+cast-n c = let w = within (c .before) in omega arith
+
+add-start : tie.Need-add-start Inv-loop μ-loop
+add-start c = let w = within (c .before) in omega arith
+
+add-end : tie.Need-add-end Inv-loop μ-loop
+add-end c = let w = within (c .before) in omega arith
+
+slice-aggregate-rule-held : tie.Need-slice-aggregate-rule-held Inv-loop μ-loop
+slice-aggregate-rule-held c = sym (length-take-le (c .before .before .before .loop .at) (c .before .before .before .before .before .args .rules .now) (c .before .before .before .loop .inv .0))
+
+mul-rule-held : tie.Need-mul-rule-held Inv-loop μ-loop
+mul-rule-held c = let w = within (c .before .before) in omega arith
+
+shared-slice-read-rule-held : tie.Need-shared-slice-read-rule-held Inv-loop μ-loop
+shared-slice-read-rule-held c = let w = within (c .before .before .before) in omega arith
+
+mul-rule-held-2 : tie.Need-mul-rule-held-2 Inv-loop μ-loop
+mul-rule-held-2 c = let w = within (c .before .before .before) in omega arith
+
+sub-rule-held : tie.Need-sub-rule-held Inv-loop μ-loop
+sub-rule-held c = search needs
+
+part-rule-held-start : tie.Need-part-rule-held-start Inv-loop μ-loop
+part-rule-held-start c = search needs
+
+part-rule-held-end : tie.Need-part-rule-held-end Inv-loop μ-loop
+part-rule-held-end c = let w = within (c .before .before .before) in omega arith
+
+rule-held-requires : tie.Need-rule-held-requires Inv-loop μ-loop
+rule-held-requires c κs = c .before .before .before .before .before .loop .inv .1 .whole
+
+add-total : tie.Need-add-total Inv-loop μ-loop
+add-total c = search needs
+
+add-total-2 : tie.Need-add-total-2 Inv-loop μ-loop
+add-total-2 c = let b = c .before .before .before .before .before .before .before .loop .inv .1 .few in omega arith
+
+add-total-3 : tie.Need-add-total-3 Inv-loop μ-loop
+add-total-3 c = let w = within (c .before .before .before .before .before .before) in let b = c .before .before .before .before .before .before .before .loop .inv .1 .few in omega arith
+
+loop-less : tie.Need-loop-less Inv-loop μ-loop
+loop-less c = search needs
+
+loop-again : tie.Need-loop-again Inv-loop μ-loop
+loop-again c =
+    let r = c .before .before .before .before .before .before .before .before .before .args .rules .now in
+    let l = c .before .before .before .before .before .before .before .loop in
+    (within (c .before .before .before .before .before .before) .fits, counting-added r (l .at) (l .total) (l .inv .1) (c .before .before .before .before .before .before .loop-test .taken) (sym (c .before .rule-held .ensures) ∙ not-true _ (c .if1 .taken)))
+
+loop-less-2 : tie.Need-loop-less-2 Inv-loop μ-loop
+loop-less-2 c = search needs
+
+loop-again-2 : tie.Need-loop-again-2 Inv-loop μ-loop
+loop-again-2 c =
+    let r = c .before .before .before .before .before .before .before .before .before .args .rules .now in
+    let l = c .before .before .before .before .before .before .before .loop in
+    (within (c .before .before .before .before .before .before) .fits, counting-held r (l .at) (l .total) (l .inv .1) (c .before .before .before .before .before .before .loop-test .taken) (sym (c .before .rule-held .ensures) ∙ not-false _ (c .if1 .left)))
+
+returns : tie.Need-returns Inv-loop μ-loop
+returns c = let l = c .before .loop in counting-end (c .before .before .before .args .rules .now) (l .at) (l .total) (l .inv .1) (omega arith)
+
+pub opening-words-spec : {M : Type 1} → statement M
+opening-words-spec =
+    tie.close
+    (tie.spec
+    Inv-loop
+    μ-loop
+    loop-holds
+    add-n
+    mul-n
+    shared-slice-read-n
+    cast-n
+    add-start
+    add-end
+    slice-aggregate-rule-held
+    mul-rule-held
+    shared-slice-read-rule-held
+    mul-rule-held-2
+    sub-rule-held
+    part-rule-held-start
+    part-rule-held-end
+    rule-held-requires
+    add-total
+    add-total-2
+    add-total-3
+    loop-less
+    loop-again
+    loop-less-2
+    loop-again-2
+    returns)
