@@ -1,0 +1,96 @@
+-- The tests that calls share pass exactly if what is lent is ready; then a call's own tests decide.
+use Prim.Native.Nat.{ℕ, _≤_}
+use mathlib.Core.Path.{_≡_, refl, _∙_, ap}
+use mathlib.Core.Logic.{_↔_}
+use mathlib.Core.Bool.{_&&_}
+use mathlib.Core.List.{List}
+use mathlib.Core.Option.{none}
+use lib.Dec.{leb}
+use lib.ListN.{length}
+use borrow.Author.Tests.{leb-true, le-leb}
+use Rattle.logic.specs.Limits.{least-workspace, least-register, most-register, most-operations}
+use Rattle.logic.specs.Result.{Result, ok, refused}
+use Rattle.logic.specs.Term.{Term, encode}
+use Rattle.logic.specs.Scope.{Signature}
+use Rattle.logic.specs.Reading.{first-unheld}
+use Rattle.logic.proofs.Results.{not-ok, bound, tested, bind-is, pass, both-true, true-both}
+use Rattle.logic.proofs.Signatures.{empty-signature}
+use Rattle.logic.proofs.Searches.{first-unheld-right}
+use Rattle.logic.specs.SignatureList.{signature, operations, operations-test}
+use Rattle.register.specs.Records.{Record, register-records, Unbroken, used, held}
+use Rattle.register.specs.Calls.{Lent, View, view, shared, on-register}
+use Rattle.register.specs.Succeeds.{Ready, SignsHeld}
+use Rattle.register.proofs.Words.{unbroken-right}
+use Rattle.register.proofs.Held.{held-right}
+use Rattle.register.specs.History.{Setting, lent}
+use Rattle.logic.proofs.SignatureList.{well-formed, signature-right, operations-ok, ok-operations}
+
+-- an accepted signature is a signature in the sense of Scope
+pub signature-of : {l : Lent} {len : ℕ} {Σ : List Term} → Ready l len Σ → Signature Σ
+signature-of r = well-formed empty-signature (r .accepted)
+
+module _ (l : Lent) (len used : ℕ) where
+  -- where they passed, what is lent is ready, and the call's own tests decide
+  pub shared-ok : {Y Z : Type 0} (rs : List Record) (own : View → Result Y) {y : Y} → shared l len used (ok rs) own ≡ ok y → ((Σ : List Term) → Ready l len Σ → own (view l len used rs Σ) ≡ ok y → Z) → Z
+  shared-ok rs own e f =
+      tested (leb least-workspace (l .workspace)) _ _ _ e λ w e₁. tested (leb least-register len && leb len most-register) _ _ _ e₁ λ range e₂.
+      bound (signature (l .sig)) _ e₂ λ Σ a e₃. tested (operations-test Σ (l .n)) _ _ _ e₃ λ o e₄.
+      let (low, high) = both-true (leb least-register len) (leb len most-register) range in
+      let (n, ops) = both-true (leb 1 (l .n) && leb (l .n) most-operations) (operations Σ (l .n)) o in
+      let (one, most) = both-true (leb 1 (l .n)) (leb (l .n) most-operations) n in
+      f Σ (record {
+        workspace = leb-true least-workspace (l .workspace) w;
+        not-shorter = leb-true least-register len low;
+        not-longer = leb-true len most-register high;
+        accepted = signature-right (l .sig) Σ .0 a;
+        some-operation = leb-true 1 (l .n) one;
+        not-more = leb-true (l .n) most-operations most;
+        permits = λ i h. operations-ok Σ (l .n) ops i h .0;
+        receipts = λ i h. operations-ok Σ (l .n) ops i h .1;
+      }) e₄
+
+  pub shared-is : {Y : Type 0} {y : Result Y} {Σ : List Term} (rs : List Record) (own : View → Result Y) → Ready l len Σ → own (view l len used rs Σ) ≡ y → shared l len used (ok rs) own ≡ y
+  shared-is {Σ} rs own r e =
+      pass _ _ (le-leb least-workspace (l .workspace) (r .workspace))
+      (pass _ _ (true-both (le-leb least-register len (r .not-shorter)) (le-leb len most-register (r .not-longer)))
+      (bind-is _ (signature-right (l .sig) Σ .1 (r .accepted))
+      (pass _ _ (true-both (true-both (le-leb 1 (l .n) (r .some-operation)) (le-leb (l .n) most-operations (r .not-more))) (ok-operations Σ (l .n) (λ i h. (r .permits i h, r .receipts i h)))) e)))
+
+  -- test 3 among them
+  unbroken-ok : {Y Z : Type 0} (records : Result (List Record)) (own : View → Result Y) {y : Y} → shared l len used records own ≡ ok y →
+      ((rs : List Record) → records ≡ ok rs → shared l len used (ok rs) own ≡ ok y → Z) → Z
+  unbroken-ok (ok rs) own e f = f rs refl e
+  unbroken-ok (refused m p) own e f =
+      tested (leb least-workspace (l .workspace)) _ _ _ e λ w e₁. tested (leb least-register len && leb len most-register) _ _ _ e₁ λ range e₂. absurd (not-ok e₂)
+
+-- with an accepted signature and an unbroken register, the call's own tests decide
+module _ (l : Lent) (reg : List ℕ) where
+  pub register-ok : {Y Z : Type 0} (own : View → Result Y) {y : Y} → on-register l reg own ≡ ok y →
+      ((rs : List Record) (Σ : List Term) → Unbroken reg rs → Ready l (length reg) Σ → Signature Σ → own (view l (length reg) (used reg) rs Σ) ≡ ok y → Z) → Z
+  register-ok own e f =
+      unbroken-ok l (length reg) (used reg) (register-records reg) own e λ rs u e₁. shared-ok l (length reg) (used reg) rs own e₁ λ Σ r e₂.
+      f rs Σ (unbroken-right reg rs .0 u) r (signature-of r) e₂
+
+  pub register-is : {Y : Type 0} {y : Result Y} {rs : List Record} {Σ : List Term} (own : View → Result Y) → Unbroken reg rs → Ready l (length reg) Σ →
+      own (view l (length reg) (used reg) rs Σ) ≡ y → on-register l reg own ≡ y
+  register-is {rs} own u r e = ap (λ x. shared l (length reg) (used reg) x own) (unbroken-right reg rs .1 u) ∙ shared-is l (length reg) (used reg) rs own r e
+
+-- with another workspace that is not short, what is lent is ready too
+pub renewed : {s : Setting} {w w′ len : ℕ} {Σ : List Term} → least-workspace ≤ w′ → Ready (lent s w) len Σ → Ready (lent s w′) len Σ
+renewed long r = record {
+  workspace = long;
+  not-shorter = r .not-shorter;
+  not-longer = r .not-longer;
+  accepted = r .accepted;
+  some-operation = r .some-operation;
+  not-more = r .not-more;
+  permits = r .permits;
+  receipts = r .receipts;
+}
+
+-- no embedded Sign is found unheld exactly if all are held
+pub signs-right : (rs : List Record) (t : Term) → (first-unheld (λ a q. held rs a (encode q)) 0 t ≡ none) ↔ SignsHeld rs t
+signs-right rs t = (
+  (λ e n q i. held-right rs n (encode q) .0 (first-unheld-right (λ a q. held rs a (encode q)) t 0 .0 e n q i)),
+  λ h. first-unheld-right (λ a q. held rs a (encode q)) t 0 .1 (λ n q i. held-right rs n (encode q) .1 (h n q i)),
+)

@@ -1,0 +1,92 @@
+-- When the calls succeed, said by the rules and relations and not by the tests. The second demand: proofs/Succeeds shows that the calls succeed exactly then.
+use Prim.Native.Nat.{ℕ, _+_, _≤_, _<_}
+use mathlib.Core.Path.{_≡_}
+use mathlib.Core.Logic.{_≢_, _↔_}
+use mathlib.Core.Bool.{Bool, true, false}
+use mathlib.Core.List.{List, [], _∷_, _++_}
+use mathlib.Core.Option.{some}
+use lib.ListN.{length, getElem?}
+use Rattle.logic.specs.Limits.{payloads, least-workspace, least-register, most-register, most-operations}
+use Rattle.logic.specs.Term.{Term, P, S, Pi, encode}
+use Rattle.logic.specs.Typing.{Has}
+use Rattle.logic.specs.Scope.{Signature}
+use Rattle.logic.specs.Result.{ok}
+use Rattle.logic.specs.Reading.{Embedded}
+use Rattle.logic.specs.Check.{Passes, Stated}
+use Rattle.logic.specs.SignatureList.{Lists, permit, receipt-of}
+use Rattle.register.specs.Records.{Record, header, Unbroken, used, words-of, Held, statement, say-kind}
+use Rattle.register.specs.Calls.{Lent, permission, entry, with-rule, check-call, say-call, request-call, open-call}
+
+-- what every call but read needs of what it is lent; Σ are the constants' types, and then a signature in the sense of Scope
+pub record Ready (l : Lent) (len : ℕ) (Σ : List Term) : Type 0 where
+  pub workspace : least-workspace ≤ l .workspace
+  pub not-shorter : least-register ≤ len
+  pub not-longer : len ≤ most-register
+  pub accepted : Lists [] (l .sig) Σ
+  pub some-operation : 1 ≤ l .n
+  pub not-more : l .n ≤ most-operations
+  pub permits : (i : ℕ) → i < l .n → getElem? Σ (permit i) ≡ some (Pi S P)
+  pub receipts : (i : ℕ) → i < l .n → getElem? Σ (receipt-of i) ≡ some (Pi S (Pi S P))
+
+-- every Sign embedded in t is held: "one nested in a proposition or a domain counts too"
+abbrev pub SignsHeld : List Record → Term → Type 0
+SignsHeld rs t = (n : ℕ) (q : Term) → Embedded n q t → Held rs n (encode q)
+
+-- a check gives the type A
+pub record Checkable (l : Lent) (reg ws : List ℕ) (A : Term) : Type 0 where
+  pub rs : List Record
+  pub unbroken : Unbroken reg rs
+  pub Σ : List Term
+  pub ready : Ready l (length reg) Σ
+  pub t : Term
+  pub passes : Passes Σ ws t A
+  pub signs : SignsHeld rs t
+
+-- a request is granted: the proof's words check with the permission, and the entry fits
+pub record Grantable (l : Lent) (reg : List ℕ) (i v u : ℕ) (ws : List ℕ) : Type 0 where
+  pub operation : i < l .n
+  pub extract : v < payloads
+  pub delivery : u < payloads
+  pub proof : Checkable l reg ws (permission i v)
+  pub room : used reg + length (words-of (entry i v u ws)) ≤ length reg
+
+-- what a say adds: nothing where the statement is held, and else it has to fit
+pub data Adds (rs : List Record) (reg : List ℕ) (a : ℕ) (ws : List ℕ) : Bool → Type 0 where
+  held-before : Held rs a ws → Adds rs reg a ws false
+  added-now : (Held rs a ws → ⊥) → used reg + length (words-of (statement say-kind a ws ∷ [])) ≤ length reg → Adds rs reg a ws true
+
+-- a say succeeds, and answers whether it added a record
+pub record Sayable (l : Lent) (reg : List ℕ) (a : ℕ) (ws : List ℕ) (added : Bool) : Type 0 where
+  pub rs : List Record
+  pub unbroken : Unbroken reg rs
+  pub Σ : List Term
+  pub ready : Ready l (length reg) Σ
+  pub principal : a < payloads
+  pub not-desk : a ≢ 0
+  pub q : Term
+  pub stated : Stated Σ a ws q
+  pub signs : SignsHeld rs q
+  pub adds : Adds rs reg a ws added
+
+-- behind the rules rs, the words list rules that leave rs′: each passes as a Sign, and the Signs embedded in it are earlier rules
+pub data Opens (Σ : List Term) : List Record → List ℕ → List Record → Type 0 where
+  no-rule : {rs : List Record} → Opens Σ rs [] rs
+  one-rule : {rs rs′ : List Record} {a : ℕ} {q ws : List ℕ} {t : Term} → a < payloads → Stated Σ a q t → SignsHeld rs t → Opens Σ (with-rule rs a q) ws rs′ → Opens Σ rs (a ∷ length q ∷ (q ++ ws)) rs′
+
+-- an open succeeds with the records rs
+pub record Openable (l : Lent) (reg rules : List ℕ) (rs : List Record) : Type 0 where
+  pub Σ : List Term
+  pub ready : Ready l (length reg) Σ
+  pub opens : Opens Σ [] rules rs
+  pub room : header + length (words-of rs) ≤ length reg
+
+-- the second demand
+pub record Demand2 : Type 0 where
+  pub checks : (l : Lent) (reg ws : List ℕ) (A : Term) → (check-call l reg ws ≡ ok A) ↔ Checkable l reg ws A
+  pub grants : (l : Lent) (reg : List ℕ) (i v u : ℕ) (ws : List ℕ) → (request-call l reg i v u ws ≡ ok tt) ↔ Grantable l reg i v u ws
+  pub says : (l : Lent) (reg : List ℕ) (a : ℕ) (ws : List ℕ) (added : Bool) → (say-call l reg a ws ≡ ok added) ↔ Sayable l reg a ws added
+  pub opens : (l : Lent) (reg rules : List ℕ) (rs : List Record) → (open-call l reg rules ≡ ok rs) ↔ Openable l reg rules rs
+  -- an accepted signature is a signature in the sense of Scope
+  pub well-formed : {l : Lent} {len : ℕ} {Σ : List Term} → Ready l len Σ → Signature Σ
+  -- a term has at most one type
+  pub unique : {Σ Γ : List Term} {t A B : Term} → Has Σ Γ t A → Has Σ Γ t B → A ≡ B
