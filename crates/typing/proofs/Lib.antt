@@ -4,3 +4,4 @@ pub mod Uniform
 pub mod Derives
 pub mod Checks
 pub mod Listings
+pub mod Statements
