@@ -1,0 +1,3 @@
+// The calls of the register.
+pub mod operations_stub;
+pub mod shared;
