@@ -2,21 +2,26 @@
 use Prim.Native.Nat.{ℕ, _≤_}
 use mathlib.Core.Path.{_≡_}
 use mathlib.Core.List.{List, []}
+use lib.Dec.{leb}
 use lib.ListN.{length, take}
 use Rattle.logic.specs.Limits.{most-constants, least-workspace, least-register, most-register}
-use Rattle.logic.specs.Refusals.{bad-number}
+use Rattle.logic.specs.Refusals.{workspace-short, bad-number}
 use Rattle.logic.specs.Result.{Result, ok, refused, _>>=_, _>>_, require}
 use Rattle.logic.specs.Term.{Term}
 use Rattle.logic.specs.SignatureList.{signature, operations-test}
 use Rattle.typing.specs.Check.{Constants-of}
 use Rattle.register.specs.Records.{Record, header, used, register-records}
-use Rattle.register.specs.Calls.{Lent, View, view, shared, on-register}
+use Rattle.register.specs.Calls.{Lent, View, view, length-test, shared, on-register}
 use Rattle.calls.specs.declared.shared.Ready.{Ready}
 use Rattle.calls.specs.declared.shared.Ready.the-variants.{Constants, Fault}
 
 -- what a call is lent
 abbrev pub lent-of : (sig : List ℕ) (n workspace : ℕ) → Lent
 lent-of sig n workspace = record { sig = sig; n = n; workspace = workspace }
+
+-- tests 1 and 2
+abbrev pub lengths-test : (workspace register : ℕ) → Result (Unit {0})
+lengths-test workspace register = require (leb least-workspace workspace) workspace-short 0 >> length-test register
 
 -- tests 4 and 5
 abbrev pub signed : List ℕ → ℕ → Result (List Term)

@@ -16,7 +16,8 @@ ghost use mathlib.Core.Path.{_≡_};
 ghost use lib.ListN.{length};
 ghost use Rattle.logic.specs.Limits.{most-constants};
 ghost use Rattle.typing.specs.Check.{Readable};
-ghost use Rattle.calls.specs.Shared.{lent-of, signed, Signed-as, prepared, Prepared-as, opened, Opened-as};
+ghost use Rattle.calls.specs.Answers.{number-of};
+ghost use Rattle.calls.specs.Shared.{lengths-test, lent-of, signed, Signed-as, prepared, Prepared-as, opened, Opened-as};
 
 // How many constants the signature has; or a test refuses.
 pub enum Ready {
@@ -49,26 +50,47 @@ fn accept(sig: &[u32], n: u32, table: &mut [u32], ws: &mut [u32]) -> Ready
     }
 }
 
-// Tests 1, 2, 4 and 5, for open.
-pub fn lend(sig: &[u32], n: u32, length: usize, table: &mut [u32], ws: &mut [u32]) -> Ready
-    requires { ⌜ length (now table) ≡ most-constants ⌝ }
-    ensures { λ r. ⌜ Opened-as (opened (lent-of (now (sig .entry)) n (length (now (ws .entry)))) «length») (lent-of (now (sig .entry)) n (length (now (ws .entry)))) «length» (now (table .exit)) r ⌝ }
+// Tests 1 and 2: the number of the one that refuses, or 0.
+fn lengths(workspace: usize, register: usize) -> u32
+    ensures { λ r. ⌜ r ≡ number-of (lengths-test workspace register) ⌝ }
 {
-    if ws.len() < LEAST_WORKSPACE {
-        return Ready::Fault {
-            number: WORKSPACE_SHORT,
-            place: 0,
-        };
+    if workspace < LEAST_WORKSPACE {
+        return WORKSPACE_SHORT;
     }
-    if length < LEAST_REGISTER {
-        return Ready::Fault {
-            number: REGISTER_LENGTH,
-            place: 0,
-        };
+    if register < LEAST_REGISTER {
+        return REGISTER_LENGTH;
     }
-    if MOST_REGISTER < length {
+    if MOST_REGISTER < register {
+        return REGISTER_LENGTH;
+    }
+    0
+}
+
+// Tests 1, 2, 4 and 5, for open.
+pub fn lend(sig: &[u32], n: u32, register: usize, table: &mut [u32], ws: &mut [u32]) -> Ready
+    requires { ⌜ length (now table) ≡ most-constants ⌝ }
+    ensures { λ r. ⌜ Opened-as (opened (lent-of (now (sig .entry)) n (length (now (ws .entry)))) register) (lent-of (now (sig .entry)) n (length (now (ws .entry)))) register (now (table .exit)) r ⌝ }
+{
+    let number = lengths(ws.len(), register);
+    if number != 0 {
+        return Ready::Fault { number, place: 0 };
+    }
+    accept(sig, n, table, ws)
+}
+
+// Tests 1 to 5, for the other calls.
+pub fn prepare(sig: &[u32], n: u32, register: &[u32], table: &mut [u32], ws: &mut [u32]) -> Ready
+    requires { ⌜ length (now table) ≡ most-constants ⌝ }
+    ensures { λ r. ⌜ Prepared-as (prepared (lent-of (now (sig .entry)) n (length (now (ws .entry)))) (now (register .entry))) (lent-of (now (sig .entry)) n (length (now (ws .entry)))) (now (register .entry)) (now (table .exit)) r ⌝ }
+{
+    let number = lengths(ws.len(), register.len());
+    if number != 0 {
+        return Ready::Fault { number, place: 0 };
+    }
+    let contents = walk(register);
+    if let Contents::Broken = contents {
         return Ready::Fault {
-            number: REGISTER_LENGTH,
+            number: REGISTER_BROKEN,
             place: 0,
         };
     }
