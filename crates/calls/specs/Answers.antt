@@ -1,6 +1,6 @@
 -- The numbers, places and words of the calls' answers.
 use Prim.Native.Nat.{ℕ}
-use mathlib.Core.Bool.{Bool, true, false}
+use mathlib.Core.Path.{_≡_}
 use mathlib.Core.List.{List, []}
 use Rattle.logic.specs.Result.{Result, ok, refused}
 use Rattle.logic.specs.Term.{Term, encode}
@@ -18,3 +18,9 @@ place-of (refused m p) = p
 abbrev pub type-of : Result Term → List ℕ
 type-of (ok A) = encode A
 type-of (refused m p) = []
+
+-- what check hands back: a part of the workspace that holds exactly the type's words, a number and a place
+pub record Handed (o : Result Term) (part : List ℕ) (number place : ℕ) : Type 0 where
+  pub part-is : part ≡ type-of o
+  pub number-is : number ≡ number-of o
+  pub place-is : place ≡ place-of o

@@ -1,3 +1,4 @@
 // The calls of the register.
+pub mod check;
 pub mod operations_stub;
 pub mod shared;
