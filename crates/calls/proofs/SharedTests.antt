@@ -17,6 +17,7 @@ use Rattle.logic.proofs.Basics.{clash}
 use Rattle.logic.proofs.Results.{both-true, true-both}
 use Rattle.rules.specs.Scope.{Declared}
 use Rattle.typing.specs.Check.{Constants-of, Read-as}
+use Rattle.typing.proofs.Accepted.{signature-number, Constants-read}
 use Rattle.typing.specs.declared.signature.Listed.{Listed}
 use Rattle.typing.specs.declared.signature.Listed.the-variants.{Accepted, Bad}
 use Rattle.records.specs.Answers.{contentsOf}
@@ -84,45 +85,12 @@ lengths-refused w r number e n = go (leb least-workspace w) (leb least-register 
 
 -- ---- tests 4 and 5
 
-test-number : (b : Bool) (m at : ℕ) (r : Result (List Term)) {k p : ℕ} → (r ≡ refused k p → k ≡ m) → (require b m at >> r) ≡ refused k p → k ≡ m
-test-number true m at r f e = f e
-test-number false m at r f e = cc
-
-constant-number : (x : Result Term) (at : ℕ) (f : Term → Result (List Term)) {k p : ℕ} → ((A : Term) → f A ≡ refused k p → k ≡ bad-signature) → (at-constant at x >>= f) ≡ refused k p → k ≡ bad-signature
-constant-number (ok A) at f g e = g A e
-constant-number (refused m q) at f g e = cc
-
--- a signature is refused by 4 only
-constants-number : (k at : ℕ) (Σ : List Term) (ws : List ℕ) {m p : ℕ} → constants k at Σ ws ≡ refused m p → m ≡ bad-signature
-unfolding constants
-constants-number zero at Σ ws e = cc
-constants-number (suc k) at Σ [] e = absurd (clash (cc))
-constants-number (suc k) at Σ (n ∷ ws) e =
-    test-number (ltb (length Σ) most-constants && leb 1 n && leb n most-constant-words && leb n (length ws)) bad-signature at _ (constant-number (constant Σ (take n ws)) at _ (λ A. constants-number k (at + 1 + n) (Σ ++ (A ∷ [])) (drop n ws))) e
-
 pub signature-bad : (sig table : List ℕ) (n p : ℕ) (r : Listed) → Read-as (signature sig) sig table r → r ≡ Bad p → Signed-as (signed sig n) sig table (Fault bad-signature p)
 signature-bad sig table n p r R q = go (signature sig) refl (subst (Read-as (signature sig) sig table) q R)
   where
     go : (x : Result (List Term)) → signature sig ≡ x → Read-as x sig table (Bad p) → Signed-as (x >>= λ Σ. require (operations-test Σ n) bad-number 0 >> ok Σ) sig table (Fault bad-signature p)
     go (ok Σ) e (f, c) = absurd (clash (cc))
-    go (refused m p′) e f = let h = constants-number (suc (length sig)) 0 [] sig e in cc
-
--- the constants that were read
-pub record Constants-read (sig table : List ℕ) (count : ℕ) : Type 0 where
-  pub Σ : List Term
-  pub is : signature sig ≡ ok Σ
-  pub counted : count ≡ length Σ
-  pub constants-are : Constants-of sig (take count table) Σ
-
-pub constants-read : (sig table : List ℕ) (count : ℕ) (r : Listed) → Read-as (signature sig) sig table r → r ≡ Accepted count → Constants-read sig table count
-constants-read sig table count r R q = go (signature sig) refl (subst (Read-as (signature sig) sig table) q R)
-  where
-    go : (x : Result (List Term)) → signature sig ≡ x → Read-as x sig table (Accepted count) → Constants-read sig table count
-    go (ok Σ) e (f, c) = let h : count ≡ length Σ = cc in record { Σ = Σ; is = e; counted = h; constants-are = subst (λ (i : ℕ). Constants-of sig (take i table) Σ) (sym h) c }
-    go (refused m p) e f = absurd (clash (cc))
-
-pub count-within : (sig table : List ℕ) (count : ℕ) → Constants-read sig table count → count ≤ length table
-count-within sig table count C = omega (arith, length-take count table, C .constants-are .declared .count, C .counted)
+    go (refused m p′) e f = let h = signature-number sig e in cc
 
 module _ (sig table : List ℕ) (n count : ℕ) (C : Constants-read sig table count) where
   signed-is : signed sig n ≡ (require (operations-test (C .Σ) n) bad-number 0 >> ok (C .Σ))

@@ -1,8 +1,8 @@
 use mathlib.Core.Path.{sym}
 use lib.Seq.{length-take-le}
-use Rattle.calls.proofs.SharedTests.{count-within}
 use Prim.Native.Nat.{ℕ}
-use Rattle.calls.proofs.SharedTests.{signature-bad, Constants-read, constants-read, operations-fit, operations-unfit}
+use Rattle.calls.proofs.SharedTests.{signature-bad, operations-fit, operations-unfit}
+use Rattle.typing.proofs.Accepted.{Constants-read, constants-read, count-within}
 use native.Mathlib.Omega.{arith}
 use borrow.Author.Needs.{needs}
 use Rattle.calls.proofs.shared.accept.Statement.{statement}
