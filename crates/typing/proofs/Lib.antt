@@ -5,3 +5,4 @@ pub mod Derives
 pub mod Checks
 pub mod Listings
 pub mod Statements
+pub mod Permits

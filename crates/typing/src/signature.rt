@@ -1,8 +1,8 @@
 // The signature list: a length word and a type for each constant.
 use crate::check::check_term;
+use logic::word::PAYLOADS;
 use rules::derivation::Derivation;
 use rules::front::front_is;
-use logic::word::PAYLOADS;
 ghost use mathlib.Core.Path.{_≡_};
 ghost use mathlib.Core.List.{List};
 ghost use lib.ListN.{drop};
