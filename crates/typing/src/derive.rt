@@ -1,11 +1,11 @@
 // The derivation of a term's type.
+use logic::refusal::CONDITION_FAILS;
 use logic::word::ATOM;
 use logic::word::PAYLOADS;
 use logic::word::SIGN;
 use logic::word::VARIABLE;
 use logic::word::kind;
 use rules::atom::atom;
-use rules::derivation::CONDITION_FAILS;
 use rules::derivation::Derivation;
 use rules::enter::Entered;
 use rules::enter::enter;

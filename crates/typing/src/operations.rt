@@ -1,4 +1,5 @@
 // The constants of the operations: each operation's permit and receipt.
+use logic::limit::MOST_OPERATIONS;
 use logic::word::PAYLOADS;
 use logic::word::TAG_PI;
 use logic::word::TAG_PROP;
@@ -35,7 +36,7 @@ pub fn operations(sig: &[u32], table: &[u32], n: u32) -> bool
     if count < 1 {
         return false;
     }
-    if 8 < count {
+    if MOST_OPERATIONS < count {
         return false;
     }
     let pi = TAG_PI * PAYLOADS;
