@@ -1,10 +1,10 @@
 // The derivation of a term's type.
 use logic::refusal::CONDITION_FAILS;
 use logic::word::ATOM;
-use logic::word::PAYLOADS;
 use logic::word::SIGN;
 use logic::word::VARIABLE;
 use logic::word::kind;
+use logic::word::payload_of;
 use rules::atom::atom;
 use rules::derivation::Derivation;
 use rules::enter::Entered;
@@ -40,7 +40,7 @@ pub fn derive(
         return atom(sig, table, ws, word, at);
     }
     if k == VARIABLE {
-        return variable(proof, ws, floor, used, word % PAYLOADS, at);
+        return variable(proof, ws, floor, used, payload_of(word), at);
     }
     if k == SIGN {
         // no variables are in scope
