@@ -9,7 +9,7 @@ use logic::refusal::REGISTER_LENGTH;
 use logic::refusal::WORKSPACE_SHORT;
 use records::walk::Contents;
 use records::walk::walk;
-use crate::operations_stub::operations;
+use typing::operations::operations;
 use typing::signature::Listed;
 use typing::signature::read_signature;
 ghost use mathlib.Core.Path.{_≡_};

@@ -6,3 +6,4 @@ pub mod Checks
 pub mod Listings
 pub mod Statements
 pub mod Accepted
+pub mod Permits

@@ -1,11 +1,16 @@
 // Tests 6 to 12 on a term's words.
 use crate::derive::derive;
+use logic::limit::MOST_STATEMENT_NESTING;
+use logic::limit::MOST_STATEMENT_WORDS;
+use logic::limit::MOST_TYPE_WORDS;
+use logic::refusal::CONDITION_FAILS;
+use logic::refusal::MALFORMED;
+use logic::refusal::NESTING;
+use logic::refusal::TERM_LENGTH;
+use logic::refusal::TYPE_TOO_LONG;
 use logic::word::PAYLOADS;
 use logic::word::TAG_PROP;
-use rules::derivation::CONDITION_FAILS;
 use rules::derivation::Derivation;
-use rules::derivation::MOST_TYPE_WORDS;
-use rules::derivation::TYPE_TOO_LONG;
 use rules::derivation::Verdict;
 use rules::front::front_is;
 use words::nesting::Nesting;
@@ -36,23 +41,29 @@ pub fn check_term(
     let len = term.len();
     if len < 1 {
         return Derivation::Refused {
-            number: 6,
+            number: TERM_LENGTH,
             place: 0,
         };
     }
     if most < len {
         return Derivation::Refused {
-            number: 6,
+            number: TERM_LENGTH,
             place: 0,
         };
     }
     let whole = read_whole(term);
     if let Parse::Bad(place) = whole {
-        return Derivation::Refused { number: 7, place };
+        return Derivation::Refused {
+            number: MALFORMED,
+            place,
+        };
     }
     let nesting = nested(term, 0, deep);
     if let Nesting::Past(place) = nesting {
-        return Derivation::Refused { number: 8, place };
+        return Derivation::Refused {
+            number: NESTING,
+            place,
+        };
     }
     derive(sig, table, term, ws, 0, 0, 0, deep)
 }
@@ -62,7 +73,14 @@ pub fn check_statement(sig: &[u32], table: &[u32], proposition: &[u32], ws: &mut
     requires { ⌜ Checkable (now sig) (now table) (now ws) most-statement-words most-statement-nesting ⌝ }
     ensures { λ r. ⌜ ((Σ : List Term) → (a : ℕ) → Constants-of (now (sig .entry)) (now (table .entry)) Σ → r ≡ verdict-of (check-statement Σ a (now (proposition .entry)))) ⌝ }
 {
-    let typed = check_term(sig, table, proposition, 2047, 31, ws);
+    let typed = check_term(
+        sig,
+        table,
+        proposition,
+        MOST_STATEMENT_WORDS,
+        MOST_STATEMENT_NESTING,
+        ws,
+    );
     match typed {
         Derivation::Refused { number, place } => Verdict::Fault { number, place },
         Derivation::Typed { words, end: _ } => {

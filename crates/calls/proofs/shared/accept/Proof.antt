@@ -9,7 +9,7 @@ use Rattle.calls.proofs.shared.accept.Statement.{statement}
 use Rattle.calls.proofs.shared.accept.Tie as tie
 use Rattle.calls.proofs.shared.accept.Reads as reads
 use Rattle.calls.proofs.shared.accept.Lts as lts
-use Rattle.calls.proofs.operations_stub.operations.Reads as operations-reads
+use Rattle.typing.proofs.operations.operations.Reads as operations-reads
 use Rattle.typing.proofs.signature.read_signature.Reads as read-signature-reads
 
 -- the constants that were read
