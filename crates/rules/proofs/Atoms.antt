@@ -1,5 +1,5 @@
 -- An atom's type, by its word's tag, or from the signature.
-use Prim.Native.Nat.{ℕ, zero, suc, _+_, _-_, _/_, _%_, _≤_, _<_}
+use Prim.Native.Nat.{ℕ, zero, suc, _+_, _-_, _≤_, _<_}
 use native.Mathlib.Nat.{le-of-suc-le-suc}
 use native.Mathlib.Omega.{arith}
 use mathlib.Core.Path.{_≡_, refl, sym, ap, subst, _∙_}
@@ -8,10 +8,11 @@ use mathlib.Core.List.{List, [], _∷_}
 use mathlib.Core.Option.{Option, some, none}
 use lib.Dec.{eqb}
 use lib.ListN.{length, take, drop, set, getD, getElem?}
-use Rattle.logic.specs.Limits.{payloads, most-type-words}
+use Rattle.logic.specs.Limits.{most-type-words}
 use Rattle.logic.specs.Refusals.{unknown-constant, type-too-long}
+use Rattle.logic.specs.Tags.{tag-prop, tag-type, tag-string, tag-prin, tag-constant, tag-text, tag-name, tag-kindP, tag-kindT}
 use Rattle.logic.specs.Result.{Result, ok, _>>=_, known, pick}
-use Rattle.logic.specs.Term.{Atom, propA, typeA, stringA, prinA, kindPA, kindTA, constA, textA, nameA, Term, atom, atomWord, word, encode, size}
+use Rattle.logic.specs.Term.{Atom, propA, typeA, stringA, prinA, kindPA, kindTA, constA, textA, nameA, Term, atom, atomWord, word, tag-of, payload-of, encode, size}
 use Rattle.logic.specs.Reading.{Plain, PlainAtom, PlainType}
 use Rattle.logic.specs.Infer.{measured, infer-atom}
 use Rattle.logic.proofs.Basics.{clash, some-inj}
@@ -30,9 +31,9 @@ use Rattle.rules.proofs.Fronts.{measured-fits, measured-long, refuses, 
 
 -- the word of the type, by the code's tests
 abbrev pub sort-by : ℕ → ℕ
-sort-by tag = pick (eqb tag 1) (word 16 0) (pick (eqb tag 2) (word 17 0) (pick (eqb tag 11) (word 3 0) (pick (eqb tag 12) (word 4 0) (word 2 0))))
+sort-by tag = pick (eqb tag tag-prop) (word tag-kindP 0) (pick (eqb tag tag-type) (word tag-kindT 0) (pick (eqb tag tag-text) (word tag-string 0) (pick (eqb tag tag-name) (word tag-prin 0) (word tag-type 0))))
 
-sort-right : (a b : Atom) → PlainAtom a → sort-of a ≡ some b → sort-by (atomWord a / payloads) ≡ atomWord b
+sort-right : (a b : Atom) → PlainAtom a → sort-of a ≡ some b → sort-by (tag-of (atomWord a)) ≡ atomWord b
 sort-right propA b p e = ap atomWord (some-inj e)
 sort-right typeA b p e = ap atomWord (some-inj e)
 sort-right stringA b p e = ap atomWord (some-inj e)
@@ -40,26 +41,26 @@ sort-right prinA b p e = ap atomWord (some-inj e)
 sort-right kindPA b p e = absurd p
 sort-right kindTA b p e = absurd p
 sort-right (constA n) b p e = absurd (clash (cc))
-sort-right (textA n) b p e = let t : word 11 n / payloads ≡ 11 = omega arith in ap sort-by t ∙ ap atomWord (some-inj e)
-sort-right (nameA n) b p e = let t : word 12 n / payloads ≡ 12 = omega arith in ap sort-by t ∙ ap atomWord (some-inj e)
+sort-right (textA n) b p e = let t : tag-of (word tag-text n) ≡ tag-text = omega arith in ap sort-by t ∙ ap atomWord (some-inj e)
+sort-right (nameA n) b p e = let t : tag-of (word tag-name n) ≡ tag-name = omega arith in ap sort-by t ∙ ap atomWord (some-inj e)
 
-pub sort-is : {r : ℕ} (tag : ℕ) → sort-by tag ≡ r → (a b : Atom) → PlainAtom a → tag ≡ atomWord a / payloads → sort-of a ≡ some b → r ≡ atomWord b
+pub sort-is : {r : ℕ} (tag : ℕ) → sort-by tag ≡ r → (a b : Atom) → PlainAtom a → tag ≡ tag-of (atomWord a) → sort-of a ≡ some b → r ≡ atomWord b
 sort-is tag q a b p t e = sym q ∙ ap sort-by t ∙ sort-right a b p e
 
 -- the word of a constant
-constant-word : (w : ℕ) (a : Atom) → PlainAtom a → w ≡ atomWord a → w / payloads ≡ 6 → a ≡ constA (w % payloads)
+constant-word : (w : ℕ) (a : Atom) → PlainAtom a → w ≡ atomWord a → tag-of w ≡ tag-constant → a ≡ constA (payload-of w)
 constant-word w propA p e t = absurd (omega arith)
 constant-word w typeA p e t = absurd (omega arith)
 constant-word w stringA p e t = absurd (omega arith)
 constant-word w prinA p e t = absurd (omega arith)
 constant-word w kindPA p e t = absurd p
 constant-word w kindTA p e t = absurd p
-constant-word w (constA n) p e t = let q : n ≡ w % payloads = omega arith in ap constA q
+constant-word w (constA n) p e t = let q : n ≡ payload-of w = omega arith in ap constA q
 constant-word w (textA n) p e t = absurd (omega arith)
 constant-word w (nameA n) p e t = absurd (omega arith)
 
 -- every other atom has a type that is an atom
-pub sort-known : (w : ℕ) (a : Atom) → PlainAtom a → w ≡ atomWord a → (w / payloads ≡ 6 → ⊥) → (b : Atom) × (sort-of a ≡ some b)
+pub sort-known : (w : ℕ) (a : Atom) → PlainAtom a → w ≡ atomWord a → (tag-of w ≡ tag-constant → ⊥) → (b : Atom) × (sort-of a ≡ some b)
 sort-known w propA p e t = (kindPA, refl)
 sort-known w typeA p e t = (kindTA, refl)
 sort-known w stringA p e t = (typeA, refl)
@@ -113,7 +114,7 @@ element [] n h = absurd (omega arith)
 element (A ∷ l) zero h = (A, refl)
 element (A ∷ l) (suc n) h = element l n (le-of-suc-le-suc h)
 
-no-element : (l : List Term) (n : ℕ) → length l ≤ n → getElem? l n ≡ none
+pub no-element : (l : List Term) (n : ℕ) → length l ≤ n → getElem? l n ≡ none
 no-element [] n h = refl
 no-element (A ∷ l) zero h = absurd (omega arith)
 no-element (A ∷ l) (suc n) h = no-element l n (le-of-suc-le-suc h)
@@ -124,8 +125,8 @@ constant-unknown {sig} {table} {Σ} ws n at l d =
     refuses (atom-type Σ at (constA n)) unknown-constant at (at + 1) ws (ap (λ (o : Option Term). known unknown-constant at o >>= measured at) (no-element Σ n (omega arith)))
 
 -- a constant's word has a constant's type
-pub constant-typed : {ws new : List ℕ} {r : Derivation} (Σ : List Term) (at w : ℕ) (a : Atom) → PlainAtom a → w ≡ atomWord a → w / payloads ≡ 6 → Formed (atom-type Σ at (constA (w % payloads))) (at + 1) ws new r → Formed (atom-type Σ at a) (at + 1) ws new r
-constant-typed {ws} {new} {r} Σ at w a p e t f = subst (λ (x : Atom). Formed (atom-type Σ at x) (at + 1) ws new r) (sym (constant-word w a p e t)) f
+pub constant-typed : {ws new : List ℕ} {r : Derivation} {n : ℕ} (Σ : List Term) (at w : ℕ) (a : Atom) → PlainAtom a → w ≡ atomWord a → tag-of w ≡ tag-constant → n ≡ payload-of w → Formed (atom-type Σ at (constA n)) (at + 1) ws new r → Formed (atom-type Σ at a) (at + 1) ws new r
+constant-typed {ws} {new} {r} Σ at w a p e t q f = subst (λ (x : Atom). Formed (atom-type Σ at x) (at + 1) ws new r) (ap constA q ∙ sym (constant-word w a p e t)) f
 
 -- where a constant's type stands
 pub record ConstantAt (sig table : List ℕ) (n : ℕ) (Σ : List Term) : Type 0 where

@@ -10,17 +10,18 @@ use lib.Dec.{eqb}
 use lib.ListN.{length, take, drop, getD, length-append}
 use lib.IntN.{pos}
 use borrow.Author.Tests.{eqb-true, eq-eqb}
-use Rattle.logic.specs.Limits.{payloads, most-type-words}
+use Rattle.logic.specs.Limits.{most-type-words}
 use Rattle.logic.specs.Refusals.{condition-fails}
 use Rattle.logic.specs.Result.{Result, ok, refused, _>>_, known}
-use Rattle.logic.specs.Term.{Op, saysO, piO, lamO, appO, retO, bindO, Op-discrete, Term, atom, var, sign, node, P, T′, N, Says, word, opWord, encode, size}
+use Rattle.logic.specs.Tags.{tag-app, tag-bind}
+use Rattle.logic.specs.Term.{Op, saysO, piO, lamO, appO, retO, bindO, Op-discrete, Term, atom, var, sign, node, P, T′, N, Says, word, tag-of, opWord, encode, size}
 use Rattle.logic.specs.Move.{raise}
 use Rattle.logic.specs.Reading.{branch, leaf, shape, Plain, PlainType}
 use Rattle.logic.specs.Infer.{same, condition, domain, Parts, parts}
 use Rattle.logic.proofs.Basics.{clash}
 use Rattle.logic.proofs.Proposition.{same-yes, same-no}
 use Rattle.logic.proofs.Words.{first, head, shape-first, encode-size}
-use Rattle.logic.specs.Kind.{opKind, kindOf}
+use Rattle.logic.specs.Kind.{kind-binder, opKind, kindOf}
 use Rattle.words.specs.Place.{At, written}
 use Rattle.words.specs.Shift.{Shifted}
 use Rattle.words.specs.Typed.{TypeAt}
@@ -185,7 +186,7 @@ record Rule (o : Op) (at : ℕ) (a A : Term) (n : ℕ) (test : Result (Unit {0})
 abbrev node-test : Op → ℕ → Term → Result (Unit {0})
 node-test h at A = known condition-fails at (parts h A) >> ok tt
 
-app-rule : (o : Op) (at : ℕ) (a A : Term) (n w : ℕ) → w ≡ opWord o → w / payloads ≡ 10 → Rule o at a A n (node-test piO at A) [] n
+app-rule : (o : Op) (at : ℕ) (a A : Term) (n w : ℕ) → w ≡ opWord o → tag-of w ≡ tag-app → Rule o at a A n (node-test piO at A) [] n
 unfolding ready
 app-rule saysO at a A n w e t = absurd (omega arith)
 app-rule piO at a A n w e t = absurd (omega arith)
@@ -194,7 +195,7 @@ app-rule appO at a A n w e t = record { tests = refl; keeps = refl; front = refl
 app-rule retO at a A n w e t = absurd (omega arith)
 app-rule bindO at a A n w e t = absurd (omega arith)
 
-bind-rule : (o : Op) (at : ℕ) (a A : Term) (n w : ℕ) → w ≡ opWord o → w / payloads ≡ 15 → Rule o at a A n (node-test saysO at A) (entry bindO at a A) 0
+bind-rule : (o : Op) (at : ℕ) (a A : Term) (n w : ℕ) → w ≡ opWord o → tag-of w ≡ tag-bind → Rule o at a A n (node-test saysO at A) (entry bindO at a A) 0
 unfolding ready
 bind-rule saysO at a A n w e t = absurd (omega arith)
 bind-rule piO at a A n w e t = absurd (omega arith)
@@ -207,7 +208,7 @@ kind-op : (o : Op) → kindOf (shape (opWord o)) ≡ opKind o
 kind-op o = ap kindOf (shape-op o)
 
 -- of Pi and Lam
-binder-rule : (o : Op) (at : ℕ) (a A : Term) (n w : ℕ) → w ≡ opWord o → (w / payloads ≡ 15 → ⊥) → opKind o ≡ 4 → Rule o at a A n (condition at (domain a A)) (entry-head ∷ (at + 1) ∷ size a ∷ []) 0
+binder-rule : (o : Op) (at : ℕ) (a A : Term) (n w : ℕ) → w ≡ opWord o → (tag-of w ≡ tag-bind → ⊥) → opKind o ≡ kind-binder → Rule o at a A n (condition at (domain a A)) (entry-head ∷ (at + 1) ∷ size a ∷ []) 0
 unfolding ready
 binder-rule saysO at a A n w e q k = absurd (omega arith)
 binder-rule piO at a A n w e q k = record { tests = refl; keeps = refl; front = refl }
@@ -217,7 +218,7 @@ binder-rule retO at a A n w e q k = absurd (omega arith)
 binder-rule bindO at a A n w e q k = absurd (q (omega arith))
 
 -- of Says and Ret
-plain-rule : (o : Op) (at : ℕ) (a A : Term) (n w : ℕ) → w ≡ opWord o → (w / payloads ≡ 10 → ⊥) → (opKind o ≡ 4 → ⊥) → Rule o at a A n (condition at (same A N)) [] 0
+plain-rule : (o : Op) (at : ℕ) (a A : Term) (n w : ℕ) → w ≡ opWord o → (tag-of w ≡ tag-app → ⊥) → (opKind o ≡ kind-binder → ⊥) → Rule o at a A n (condition at (same A N)) [] 0
 unfolding ready
 plain-rule saysO at a A n w e q k = record { tests = refl; keeps = refl; front = refl }
 plain-rule piO at a A n w e q k = absurd (k refl)
@@ -257,10 +258,10 @@ module _ {proof ws : List ℕ} {at next n : ℕ} {o : Op} {a A : Term} (used : �
   node-fails : (h : Op) → (getD ws 0 0 ≡ opWord h → ⊥) → node-test h at A ≡ refused condition-fails at
   node-fails h q = ap (λ (x : Option Parts). known condition-fails at x >> ok tt) (parts-none h A λ e. q (front-first ∙ e))
 
-  pub app-passes : getD proof at 0 / payloads ≡ 10 → getD ws 0 0 ≡ opWord piO → Entering o at a A n used ws ws (Fits n used)
+  pub app-passes : tag-of (getD proof at 0) ≡ tag-app → getD ws 0 0 ≡ opWord piO → Entering o at a A n used ws ws (Fits n used)
   app-passes t e = passes-none (app-rule o at a A n _ (j .head) t) (node-passes piO e)
 
-  pub app-fails : getD proof at 0 / payloads ≡ 10 → (getD ws 0 0 ≡ opWord piO → ⊥) → Entering o at a A n used ws ws Fails
+  pub app-fails : tag-of (getD proof at 0) ≡ tag-app → (getD ws 0 0 ≡ opWord piO → ⊥) → Entering o at a A n used ws ws Fails
   app-fails t q = fails (app-rule o at a A n _ (j .head) t) used ws at (node-fails piO q)
 
   -- what `keep_says` asks
@@ -269,7 +270,7 @@ module _ {proof ws : List ℕ} {at next n : ℕ} {o : Op} {a A : Term} (used : �
       let i = node-of saysO A (j .type .plain) (sym front-first ∙ e) in
       record { p = i .left; q = i .right; type = subst (TypeAt ws 0) (i .is) (j .type); type-words = j .type-words ∙ ap size (i .is); small = small; room = room }
 
-  pub bind-passes : {new : List ℕ} {r : ℕ} → getD proof at 0 / payloads ≡ 15 → getD ws 0 0 ≡ opWord saysO → ((i : ℕ) (b p q : Term) → TypeAt ws 0 (Says p q) → n ≡ size (Says p q) → Kept (entry bindO i b (Says p q)) used ws new r) → Entering o at a A n used ws new (Fits 0 r)
+  pub bind-passes : {new : List ℕ} {r : ℕ} → tag-of (getD proof at 0) ≡ tag-bind → getD ws 0 0 ≡ opWord saysO → ((i : ℕ) (b p q : Term) → TypeAt ws 0 (Says p q) → n ≡ size (Says p q) → Kept (entry bindO i b (Says p q)) used ws new r) → Entering o at a A n used ws new (Fits 0 r)
   bind-passes {new} {r} t e f =
       let i = node-of saysO A (j .type .plain) (sym front-first ∙ e) in
       let p : Term = i .left in
@@ -279,7 +280,7 @@ module _ {proof ws : List ℕ} {at next n : ℕ} {o : Op} {a A : Term} (used : �
       let l : length (entry bindO at a A) ≡ entry-head + size A = ap (λ (B : Term). length (entry bindO at a B)) (i .is) ∙ bind-length at a p q ∙ ap (λ (B : Term). entry-head + size B) (sym (i .is)) in
       passes (bind-rule o at a A n _ (j .head) t) used ws new r (node-passes saysO e) k (omega arith) (j .type)
 
-  pub bind-fails : getD proof at 0 / payloads ≡ 15 → (getD ws 0 0 ≡ opWord saysO → ⊥) → Entering o at a A n used ws ws Fails
+  pub bind-fails : tag-of (getD proof at 0) ≡ tag-bind → (getD ws 0 0 ≡ opWord saysO → ⊥) → Entering o at a A n used ws ws Fails
   bind-fails t q = fails (bind-rule o at a A n _ (j .head) t) used ws at (node-fails saysO q)
 
   -- what `kind` answers
@@ -293,7 +294,7 @@ module _ {proof ws : List ℕ} {at next n : ℕ} {o : Op} {a A : Term} (used : �
   domain-is : (b : Bool) → Answers b → b ≡ domain a A
   domain-is b f = f a A (j .here .plain) (at-head (j .here)) (j .type) (j .type-words)
 
-  pub binder-passes : {new : List ℕ} {r k : ℕ} {b : Bool} → (getD proof at 0 / payloads ≡ 15 → ⊥) → k ≡ kindOf (shape (getD proof at 0)) → k ≡ 4 → b ≡ true → Answers b → Kept (entry-head ∷ (at + 1) ∷ (next - (at + 1)) ∷ []) used ws new r → Entering o at a A n used ws new (Fits 0 r)
+  pub binder-passes : {new : List ℕ} {r k : ℕ} {b : Bool} → (tag-of (getD proof at 0) ≡ tag-bind → ⊥) → k ≡ kindOf (shape (getD proof at 0)) → k ≡ kind-binder → b ≡ true → Answers b → Kept (entry-head ∷ (at + 1) ∷ (next - (at + 1)) ∷ []) used ws new r → Entering o at a A n used ws new (Fits 0 r)
   binder-passes {new} {r} {k} {b} t e i d f g =
       let w : n ≡ size A = j .type-words in
       let x : next ≡ at + 1 + size a = j .next-is in
@@ -304,11 +305,11 @@ module _ {proof ws : List ℕ} {at next n : ℕ} {o : Op} {a A : Term} (used : �
       (omega arith)
       (j .type)
 
-  pub binder-fails : {k : ℕ} {b : Bool} → (getD proof at 0 / payloads ≡ 15 → ⊥) → k ≡ kindOf (shape (getD proof at 0)) → k ≡ 4 → b ≡ false → Answers b → Entering o at a A n used ws ws Fails
+  pub binder-fails : {k : ℕ} {b : Bool} → (tag-of (getD proof at 0) ≡ tag-bind → ⊥) → k ≡ kindOf (shape (getD proof at 0)) → k ≡ kind-binder → b ≡ false → Answers b → Entering o at a A n used ws ws Fails
   binder-fails {k} {b} t e i d f = fails (binder-rule o at a A n _ (j .head) t (op-kind k e ∙ i)) used ws at (ap (condition at) (sym (domain-is b f) ∙ d))
 
-  pub plain-passes : {k : ℕ} {b : Bool} → (getD proof at 0 / payloads ≡ 10 → ⊥) → k ≡ kindOf (shape (getD proof at 0)) → (k ≡ 4 → ⊥) → b ≡ true → b ≡ same A N → Entering o at a A n used ws ws (Fits 0 used)
+  pub plain-passes : {k : ℕ} {b : Bool} → (tag-of (getD proof at 0) ≡ tag-app → ⊥) → k ≡ kindOf (shape (getD proof at 0)) → (k ≡ kind-binder → ⊥) → b ≡ true → b ≡ same A N → Entering o at a A n used ws ws (Fits 0 used)
   plain-passes {k} t e q d f = passes-none (plain-rule o at a A n _ (j .head) t (λ i. q (sym (op-kind k e) ∙ i))) (ap (condition at) (sym f ∙ d))
 
-  pub plain-fails : {k : ℕ} {b : Bool} → (getD proof at 0 / payloads ≡ 10 → ⊥) → k ≡ kindOf (shape (getD proof at 0)) → (k ≡ 4 → ⊥) → b ≡ false → b ≡ same A N → Entering o at a A n used ws ws Fails
+  pub plain-fails : {k : ℕ} {b : Bool} → (tag-of (getD proof at 0) ≡ tag-app → ⊥) → k ≡ kindOf (shape (getD proof at 0)) → (k ≡ kind-binder → ⊥) → b ≡ false → b ≡ same A N → Entering o at a A n used ws ws Fails
   plain-fails {k} t e q d f = fails (plain-rule o at a A n _ (j .head) t (λ i. q (sym (op-kind k e) ∙ i))) used ws at (ap (condition at) (sym f ∙ d))

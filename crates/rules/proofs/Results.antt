@@ -14,7 +14,8 @@ use borrow.Author.Tests.{not-true, not-false}
 use Rattle.logic.specs.Limits.{payloads, most-type-words}
 use Rattle.logic.specs.Refusals.{condition-fails, type-too-long}
 use Rattle.logic.specs.Result.{Result, refused, _>>_, pick}
-use Rattle.logic.specs.Term.{Op, saysO, piO, lamO, appO, retO, bindO, Term, atom, var, sign, node, binds, under, P, KindP, KindT, Name, Says, word, opWord, encode, size}
+use Rattle.logic.specs.Tags.{tag-name, tag-sign}
+use Rattle.logic.specs.Term.{Op, saysO, piO, lamO, appO, retO, bindO, Term, atom, var, sign, node, binds, under, P, KindP, KindT, Name, Says, word, payload-of, opWord, encode, size}
 use Rattle.logic.specs.Move.{shift, raise, lower, fillAt, fill, occurs}
 use Rattle.logic.specs.Reading.{branch, shape, Plain, PlainType}
 use Rattle.logic.specs.Infer.{same-term, same, condition, conclusion, proposition, measured}
@@ -139,22 +140,22 @@ module _ (proof ws : List ℕ) (at n end a : ℕ) (q s : Term) (j : Signs proof 
     pub sign-long : most-type-words < end - at + 1 → Formed (sign-type at a q s) end ws ws (Refused type-too-long at)
     sign-long l = let z = signed-size in refuses _ type-too-long at end ws (signed-type _ (measured-long at _ (omega arith)))
 
-    pub sign-done : (new : List ℕ) → end - at + 1 ≤ most-type-words → 2 ≤ length ws
-        → new ≡ written (set (set ws 0 (opWord saysO)) 1 (word 12 (getD proof at 0 % payloads))) 2 (take (end - at + 1 - 2) (drop (at + 1) proof)) → Formed (sign-type at a q s) end ws new (Typed (end - at + 1) end)
+    pub sign-done : (new : List ℕ) (n : ℕ) → n ≡ payload-of (getD proof at 0) → end - at + 1 ≤ most-type-words → 2 ≤ length ws
+        → new ≡ written (set (set ws 0 (opWord saysO)) 1 (word tag-name n)) 2 (take (end - at + 1 - 2) (drop (at + 1) proof)) → Formed (sign-type at a q s) end ws new (Typed (end - at + 1) end)
     unfolding size encode Plain
-    sign-done new l m c =
+    sign-done new n r l m c =
         let z : end - at + 1 ≡ suc (1 + size q) = signed-size in
         let small : size (Says (Name a) q) ≤ most-type-words = omega arith in
         let k : end - at + 1 - 2 ≡ size q = omega arith in
         let g : a < payloads = j .here .plain .0 in
-        let h : getD proof at 0 ≡ word 13 a = at-head (j .here) in
-        let p : getD proof at 0 % payloads ≡ a = omega arith in
+        let h : getD proof at 0 ≡ word tag-sign a = at-head (j .here) in
+        let p : n ≡ a = omega arith in
         let i : length (set ws 0 (opWord saysO)) ≡ length ws = length-set ws 0 (opWord saysO) in
         writes _ (Says (Name a) q) _ end ws ws new (signed-type _ (measured-fits at _ small)) z small (inl (g, j .here .plain .1)) refl
-        (written-cons ws new 0 (opWord saysO) (word 12 a ∷ encode q) (omega arith)
-        (written-cons (set ws 0 (opWord saysO)) new 1 (word 12 a) (encode q) (omega arith)
-        (c ∙ ap₂ (λ (p : ℕ) (k : ℕ). written (set (set ws 0 (opWord saysO)) 1 (word 12 p)) 2 (take k (drop (at + 1) proof))) p k
-        ∙ ap (written (set (set ws 0 (opWord saysO)) 1 (word 12 a)) 2) (at-part (at-sign (j .here))))))
+        (written-cons ws new 0 (opWord saysO) (word tag-name a ∷ encode q) (omega arith)
+        (written-cons (set ws 0 (opWord saysO)) new 1 (word tag-name a) (encode q) (omega arith)
+        (c ∙ ap₂ (λ (p : ℕ) (k : ℕ). written (set (set ws 0 (opWord saysO)) 1 (word tag-name p)) 2 (take k (drop (at + 1) proof))) p k
+        ∙ ap (written (set (set ws 0 (opWord saysO)) 1 (word tag-name a)) 2) (at-part (at-sign (j .here))))))
 
 -- ---- a Lam or a Ret
 

@@ -1,8 +1,8 @@
 // The type of a word that has no children and is no variable.
 use crate::derivation::Derivation;
-use crate::derivation::MOST_TYPE_WORDS;
-use crate::derivation::TYPE_TOO_LONG;
-use crate::derivation::UNKNOWN_CONSTANT;
+use logic::limit::MOST_TYPE_WORDS;
+use logic::refusal::TYPE_TOO_LONG;
+use logic::refusal::UNKNOWN_CONSTANT;
 use logic::word::PAYLOADS;
 use logic::word::TAG_CONSTANT;
 use logic::word::TAG_KIND_P;
@@ -13,13 +13,14 @@ use logic::word::TAG_PROP;
 use logic::word::TAG_STRING;
 use logic::word::TAG_TEXT;
 use logic::word::TAG_TYPE;
+use logic::word::payload_of;
+use logic::word::tag_of;
 use words::part::copy;
 ghost use mathlib.Core.Path.{_≡_};
 ghost use mathlib.Core.List.{List};
 ghost use mathlib.Core.Option.{some};
-ghost use Prim.Native.Nat.{_+_, _/_};
-ghost use Rattle.logic.specs.Limits.{payloads};
-ghost use Rattle.logic.specs.Term.{Atom, constA, Term, atomWord};
+ghost use Prim.Native.Nat.{_+_};
+ghost use Rattle.logic.specs.Term.{Atom, constA, Term, atomWord, tag-of};
 ghost use Rattle.logic.specs.Reading.{PlainAtom};
 ghost use Rattle.rules.specs.Rule.{atom-type};
 ghost use Rattle.rules.specs.Scope.{Declared};
@@ -28,7 +29,7 @@ ghost use Rattle.rules.specs.Atoms.{sort-of, Constants};
 
 // The word of the type of an atom that is no constant, by the atom's tag.
 fn sort(tag: u32) -> u32
-    ensures { λ r. ⌜ ((a b : Atom) → PlainAtom a → tag ≡ atomWord a / payloads → sort-of a ≡ some b → r ≡ atomWord b) ⌝ }
+    ensures { λ r. ⌜ ((a b : Atom) → PlainAtom a → tag ≡ tag-of (atomWord a) → sort-of a ≡ some b → r ≡ atomWord b) ⌝ }
 {
     let prop = tag == TAG_PROP;
     if prop {
@@ -78,9 +79,9 @@ pub fn atom(sig: &[u32], table: &[u32], ws: &mut [u32], word: u32, at: usize) ->
     requires { ⌜ Constants (now sig) (now table) (now ws) at ⌝ }
     ensures { λ r. ⌜ ((Σ : List Term) → (a : Atom) → Declared (now (sig .entry)) (now (table .entry)) Σ → word ≡ atomWord a → PlainAtom a → Formed (atom-type Σ at a) (at + 1) (now (ws .entry)) (now (ws .exit)) r) ⌝ }
 {
-    let tag = word / PAYLOADS;
+    let tag = tag_of(word);
     if tag == TAG_CONSTANT {
-        return constant(sig, table, ws, (word % PAYLOADS) as usize, at);
+        return constant(sig, table, ws, payload_of(word) as usize, at);
     }
     ws[0] = sort(tag);
     Derivation::Typed {

@@ -11,6 +11,7 @@ use logic::word::TAG_PROP;
 use logic::word::TAG_SAYS;
 use logic::word::TAG_TYPE;
 use logic::word::kind;
+use logic::word::tag_of;
 use words::part::copy_within;
 use words::shift::shift_within;
 ghost use mathlib.Core.Path.{_≡_};
@@ -95,7 +96,7 @@ pub fn enter(
     ensures { λ r. ⌜ ((o : Op) → (a A : Term) → Enters (now (proof .entry)) (now (ws .entry)) at next n o a A → Entering o at a A n used (now (ws .entry)) (now (ws .exit)) r) ⌝ }
 {
     let word = proof[at];
-    let tag = word / PAYLOADS;
+    let tag = tag_of(word);
     if tag == TAG_APP {
         // an App's function has a Pi type, which is kept at the front
         if ws[0] == TAG_PI * PAYLOADS {

@@ -1,13 +1,14 @@
 // The result of a Sign.
-use crate::derivation::CONDITION_FAILS;
 use crate::derivation::Derivation;
-use crate::derivation::MOST_TYPE_WORDS;
-use crate::derivation::TYPE_TOO_LONG;
 use crate::front::front_is;
+use logic::limit::MOST_TYPE_WORDS;
+use logic::refusal::CONDITION_FAILS;
+use logic::refusal::TYPE_TOO_LONG;
 use logic::word::PAYLOADS;
 use logic::word::TAG_NAME;
 use logic::word::TAG_PROP;
 use logic::word::TAG_SAYS;
+use logic::word::payload_of;
 use words::part::copy;
 ghost use Prim.Native.Nat.{ℕ};
 ghost use Rattle.logic.specs.Term.{Term};
@@ -36,7 +37,7 @@ pub fn sign(proof: &[u32], ws: &mut [u32], at: usize, n: usize, end: usize) -> D
         };
     }
     ws[0] = TAG_SAYS * PAYLOADS;
-    ws[1] = TAG_NAME * PAYLOADS + proof[at] % PAYLOADS;
+    ws[1] = TAG_NAME * PAYLOADS + payload_of(proof[at]);
     copy(proof, at + 1, words - 2, ws, 2);
     Derivation::Typed { words, end }
 }

@@ -1,5 +1,5 @@
 -- The derivation of a term's type, step by step: what holds where each child has its type, and what follows for the whole.
-use Prim.Native.Nat.{ℕ, suc, _+_, _-_, _*_, _%_, _≤_}
+use Prim.Native.Nat.{ℕ, suc, _+_, _-_, _*_, _≤_}
 use native.Mathlib.Omega.{arith}
 use mathlib.Core.Path.{_≡_, refl, sym, ap, ap₂, subst, subst₂, _∙_}
 use mathlib.Core.Logic.{inl, inr}
@@ -9,10 +9,11 @@ use mathlib.Core.Option.{Option, some, none}
 use lib.ListN.{length, take, drop, getD, getElem?, length-append, length-drop}
 use lib.Seq.{take-at, drop-at, drop-drop, take-append-add, length-take-le}
 use lib.IntN.{pos}
-use Rattle.logic.specs.Limits.{payloads, most-words, most-nesting, most-type-words}
+use Rattle.logic.specs.Limits.{most-words, most-nesting, most-type-words}
 use Rattle.logic.specs.Refusals.{unbound-variable, condition-fails}
 use Rattle.logic.specs.Result.{Result, ok, refused, _>>=_, _>>_, require, known}
-use Rattle.logic.specs.Term.{Atom, Op, saysO, piO, lamO, appO, retO, bindO, Term, atom, var, sign, node, N, P, Says, Pi, atomWord, opWord, encode, size, Op-discrete}
+use Rattle.logic.specs.Kind.{kind-atom, kind-variable, kind-sign}
+use Rattle.logic.specs.Term.{Atom, Op, saysO, piO, lamO, appO, retO, bindO, Term, atom, var, sign, node, N, P, Says, Pi, payload-of, atomWord, opWord, encode, size, Op-discrete}
 use Rattle.logic.specs.Move.{raise, fill}
 use Rattle.logic.specs.Typing.{Has, of-prop}
 use Rattle.logic.specs.Scope.{Signature, Context, no-binder, binder}
@@ -490,7 +491,7 @@ module _ {sig table proof ws : List ℕ} {floor used at left : ℕ} {Σ Γ : Lis
 -- ---- leaves and Signs
 
 module _ {sig table proof ws : List ℕ} {floor used at left : ℕ} {Σ Γ : List Term} (k : ℕ) (new : List ℕ) (r : Derivation) (same : length new ≡ length ws) (room : used + front-words ≤ length ws) where
-  pub atom-derived : (t : Term) → k ≡ 0 → k ≡ headKind t → Ready sig table proof ws floor used at left Σ Γ t
+  pub atom-derived : (t : Term) → k ≡ kind-atom → k ≡ headKind t → Ready sig table proof ws floor used at left Σ Γ t
       → ((Σ : List Term) → (a : Atom) → Declared sig table Σ → getD proof at 0 ≡ atomWord a → PlainAtom a → Formed (atom-type Σ at a) (at + 1) ws new r)
       → Derived (infer Σ Γ at t) (at + size t) used ws new r
   unfolding infer size Plain
@@ -504,18 +505,18 @@ module _ {sig table proof ws : List ℕ} {floor used at left : ℕ} {Σ Γ : Lis
   unfolding infer
   raises n R A e s = type-of R (ap (λ (x : Option Term). known unbound-variable at x >>= λ A. measured at (raise (suc n) A)) e ∙ measured-small at (subst (λ (i : ℕ). i ≤ most-type-words) (sym (size-shift 0 (pos (suc n)) A)) s)) .0
 
-  pub variable-derived : (t : Term) → k ≡ 1 → k ≡ headKind t → Ready sig table proof ws floor used at left Σ Γ t
-      → ((Γ : List Term) → Binders proof (scope-words floor used ws) Γ → Raises Γ (getD proof at 0 % payloads) → Formed (variable-type Γ at (getD proof at 0 % payloads)) (at + 1) ws new r)
+  pub variable-derived : (t : Term) → k ≡ kind-variable → k ≡ headKind t → Ready sig table proof ws floor used at left Σ Γ t
+      → (n : ℕ) → n ≡ payload-of (getD proof at 0) → ((Γ : List Term) → Binders proof (scope-words floor used ws) Γ → Raises Γ n → Formed (variable-type Γ at n) (at + 1) ws new r)
       → Derived (infer Σ Γ at t) (at + size t) used ws new r
   unfolding infer size
-  variable-derived (atom a) z h R f = absurd (omega arith)
-  variable-derived (var n) z h R f =
-      let e = payload proof at n (R .here) in
+  variable-derived (atom a) z h R m q f = absurd (omega arith)
+  variable-derived (var n) z h R m q f =
+      let e = q ∙ payload proof at n (R .here) in
       from-front _ _ used ws new r same room (subst (λ (i : ℕ). Formed (variable-type Γ at i) (at + 1) ws new r) e (f Γ (R .binders) (subst (Raises Γ) (sym e) (raises n R))))
-  variable-derived (sign n q) z h R f = absurd (omega arith)
-  variable-derived (node o a b) z h R f = absurd (omega (arith, op-low o))
+  variable-derived (sign n p) z h R m q f = absurd (omega arith)
+  variable-derived (node o a b) z h R m q f = absurd (omega (arith, op-low o))
 
-  pub sign-refused : (t : Term) (m p : ℕ) → k ≡ 2 → k ≡ headKind t → Ready sig table proof ws floor used at left Σ Γ t → Derives sig table proof ws used used (at + 1) (left - 1) new r → r ≡ Refused m p → Derived (infer Σ Γ at t) (at + size t) used ws new r
+  pub sign-refused : (t : Term) (m p : ℕ) → k ≡ kind-sign → k ≡ headKind t → Ready sig table proof ws floor used at left Σ Γ t → Derives sig table proof ws used used (at + 1) (left - 1) new r → r ≡ Refused m p → Derived (infer Σ Γ at t) (at + size t) used ws new r
   unfolding infer
   sign-refused (atom a) m p z h R d q = absurd (omega arith)
   sign-refused (var n) m p z h R d q = absurd (omega arith)
@@ -534,7 +535,7 @@ pub record Signed-in (proof ws new : List ℕ) (used at n end : ℕ) (Σ Γ : Li
   pub ends : at + size t ≡ end
   pub kept : tail used new ≡ tail used ws
 
-pub signed-in : {sig table proof ws : List ℕ} {floor used at left : ℕ} {Σ Γ : List Term} (t : Term) (k : ℕ) (new : List ℕ) (r : Derivation) (n end : ℕ) → k ≡ 2 → k ≡ headKind t → Ready sig table proof ws floor used at left Σ Γ t
+pub signed-in : {sig table proof ws : List ℕ} {floor used at left : ℕ} {Σ Γ : List Term} (t : Term) (k : ℕ) (new : List ℕ) (r : Derivation) (n end : ℕ) → k ≡ kind-sign → k ≡ headKind t → Ready sig table proof ws floor used at left Σ Γ t
     → Derives sig table proof ws used used (at + 1) (left - 1) new r → r ≡ Typed n end → Signed-in proof ws new used at n end Σ Γ t
 unfolding infer size
 signed-in (atom a) k new r n end z h R d q = absurd (omega arith)
@@ -582,7 +583,7 @@ pub record NodeAt (sig table proof ws : List ℕ) (floor used at left : ℕ) (Σ
   pub b : Term
   pub ready-node : Ready sig table proof ws floor used at left Σ Γ (node o a b)
 
-pub node-case : (F : Term → Type 0) (t : Term) (k : ℕ) → k ≡ headKind t → (k ≡ 0 → ⊥) → (k ≡ 1 → ⊥) → (k ≡ 2 → ⊥) → ((o : Op) (a b : Term) → F (node o a b)) → F t
+pub node-case : (F : Term → Type 0) (t : Term) (k : ℕ) → k ≡ headKind t → (k ≡ kind-atom → ⊥) → (k ≡ kind-variable → ⊥) → (k ≡ kind-sign → ⊥) → ((o : Op) (a b : Term) → F (node o a b)) → F t
 node-case F (atom a) k h n0 n1 n2 f = absurd (n0 h)
 node-case F (var n) k h n0 n1 n2 f = absurd (n1 h)
 node-case F (sign n q) k h n0 n1 n2 f = absurd (n2 h)
@@ -594,7 +595,7 @@ pub record SignAt (sig table proof ws : List ℕ) (floor used at left : ℕ) (Σ
   pub q : Term
   pub ready-sign : Ready sig table proof ws floor used at left Σ Γ (sign n q)
 
-pub sign-case : {sig table proof ws : List ℕ} {floor used at left : ℕ} {Σ Γ : List Term} (k : ℕ) (t : Term) → k ≡ headKind t → k ≡ 2 → Ready sig table proof ws floor used at left Σ Γ t → SignAt sig table proof ws floor used at left Σ Γ
+pub sign-case : {sig table proof ws : List ℕ} {floor used at left : ℕ} {Σ Γ : List Term} (k : ℕ) (t : Term) → k ≡ headKind t → k ≡ kind-sign → Ready sig table proof ws floor used at left Σ Γ t → SignAt sig table proof ws floor used at left Σ Γ
 sign-case k (atom a) h z R = absurd (omega arith)
 sign-case k (var n) h z R = absurd (omega arith)
 sign-case k (sign n q) h z R = record { n = n; q = q; ready-sign = R }

@@ -1,25 +1,31 @@
 use Rattle.rules.proofs.Atoms.{constant-typed, sort-known, sorted}
-use Rattle.logic.specs.Limits.{payloads}
-use Prim.Native.Nat.{ℕ, _/_}
-use mathlib.Core.Path.{ap}
+use Rattle.logic.specs.Term.{tag-of}
+use Prim.Native.Nat.{ℕ}
+use mathlib.Core.Path.{sym, ap, _∙_}
 use native.Mathlib.Omega.{arith}
 use borrow.Author.Needs.{needs}
 use Rattle.rules.proofs.atom.atom.Statement.{statement}
 use Rattle.rules.proofs.atom.atom.Tie as tie
 
+tag-of-requires : tie.Need-tag-of-requires
+tag-of-requires c κs = search needs
+
+payload-of-requires : tie.Need-payload-of-requires
+payload-of-requires c κs = search needs
+
 cast-constant : tie.Need-cast-constant
 cast-constant c = search needs
 
 constant-requires : tie.Need-constant-requires
-constant-requires c κs = let s = c .before .before .before .before .before in record { Σ = s .pre .Σ; declared = s .pre .declared; place = s .pre .place; room = s .pre .room }
+constant-requires c κs = let s = c .before .before .before .before .before .before .before in record { Σ = s .pre .Σ; declared = s .pre .declared; place = s .pre .place; room = s .pre .room }
 
 same-length : tie.Need-same-length
 same-length c = search needs
 
 returns : tie.Need-returns
 returns c =
-    let s = c .before .before .before .before .before .before .before .before in
-    λ Σ a d e p. constant-typed Σ (s .args .at) (s .args .word) a p e (c .before .before .before .before .if1 .taken) (c .before .before .constant .ensures Σ d)
+    let s = c .before .before .before .before .before .before .before .before .before .before in
+    λ Σ a d e p. constant-typed Σ (s .args .at) (s .args .word) a p e (sym (c .before .before .before .before .before .before .tag-of .ensures) ∙ c .before .before .before .before .before .if1 .taken) (c .before .before .before .payload-of .ensures) (c .before .before .constant .ensures Σ d)
 
 sort-requires : tie.Need-sort-requires
 sort-requires c κs = search needs
@@ -35,13 +41,15 @@ same-length-2 c = search needs
 
 returns-2 : tie.Need-returns-2
 returns-2 c =
-    let s = c .before .before .before .before .before in
-    λ Σ a d e p. let b = sort-known (s .args .word) a p e (c .before .if1 .left) in sorted Σ (s .args .at) (c .sort .result) (s .args .ws .now) a (b .0) (omega (arith, s .pre .room)) (b .1) (c .sort .ensures a (b .0) p (ap (λ (w : ℕ). w / payloads) e) (b .1))
+    let s = c .before .before .before .before .before .before in
+    λ Σ a d e p. let b = sort-known (s .args .word) a p e (λ q. c .before .if1 .left (c .before .before .tag-of .ensures ∙ q)) in sorted Σ (s .args .at) (c .sort .result) (s .args .ws .now) a (b .0) (omega (arith, s .pre .room)) (b .1) (c .sort .ensures a (b .0) p (c .before .before .tag-of .ensures ∙ ap (λ (w : ℕ). tag-of w) e) (b .1))
 
 pub atom-spec : {M : Type 1} → statement M
 atom-spec =
     tie.close
     (tie.spec
+    tag-of-requires
+    payload-of-requires
     cast-constant
     constant-requires
     same-length

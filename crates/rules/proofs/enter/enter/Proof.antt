@@ -3,7 +3,7 @@ use Rattle.rules.proofs.Enters.{app-passes, app-fails, bind-passes, bin
 use Rattle.words.proofs.Places.{at-end, size-pos}
 use Rattle.logic.specs.Term.{prinA}
 use lib.ListN.{length}
-use mathlib.Core.Path.{refl}
+use mathlib.Core.Path.{refl, sym, _∙_}
 use Prim.Native.Nat.{ℕ, _+_, _≤_, _<_}
 use native.Mathlib.Omega.{arith}
 use borrow.Author.Needs.{needs}
@@ -29,6 +29,9 @@ mul-word c = let w = within (c .before .before) in omega (arith, c .before .befo
 shared-slice-read-word : tie.Need-shared-slice-read-word
 shared-slice-read-word c = let w = within (c .before .before .before) in omega arith
 
+tag-of-requires : tie.Need-tag-of-requires
+tag-of-requires c κs = search needs
+
 slice-read-if2 : tie.Need-slice-read-if2
 slice-read-if2 c = search needs
 
@@ -37,13 +40,13 @@ mul-if2 c = search needs
 
 returns : tie.Need-returns
 returns c =
-    let s = c .before .before .before .before .before .before in
-    λ o a A j. app-passes (s .args .used) (s .pre .room) (s .pre .small) j (c .before .before .if1 .taken) (c .if2 .taken)
+    let s = c .before .before .before .before .before .before .before in
+    λ o a A j. app-passes (s .args .used) (s .pre .room) (s .pre .small) j (sym (c .before .before .before .tag-of .ensures) ∙ c .before .before .if1 .taken) (c .if2 .taken)
 
 returns-2 : tie.Need-returns-2
 returns-2 c =
-    let s = c .before .before .before .before .before .before in
-    λ o a A j. app-fails (s .args .used) (s .pre .room) (s .pre .small) j (c .before .before .if1 .taken) (c .if2 .left)
+    let s = c .before .before .before .before .before .before .before in
+    λ o a A j. app-fails (s .args .used) (s .pre .room) (s .pre .small) j (sym (c .before .before .before .tag-of .ensures) ∙ c .before .before .if1 .taken) (c .if2 .left)
 
 slice-read-if4 : tie.Need-slice-read-if4
 slice-read-if4 c = search needs
@@ -53,7 +56,7 @@ mul-if4 c = search needs
 
 keep-says-requires : tie.Need-keep-says-requires
 keep-says-requires c κs =
-    let s = c .before .before .before .before .before .before .before .before in
+    let s = c .before .before .before .before .before .before .before .before .before in
     bind-keeps (s .args .used) (s .pre .room) (s .pre .small) (s .pre .enters) (c .before .if4 .taken)
 
 same-length : tie.Need-same-length
@@ -61,13 +64,13 @@ same-length c = search needs
 
 returns-3 : tie.Need-returns-3
 returns-3 c =
-    let s = c .before .before .before .before .before .before .before .before .before .before .before in
-    λ o a A j. bind-passes (s .args .used) (s .pre .room) (s .pre .small) j (c .before .before .before .before .before .before .if3 .taken) (c .before .before .before .before .if4 .taken) (c .before .before .keep-says .ensures)
+    let s = c .before .before .before .before .before .before .before .before .before .before .before .before in
+    λ o a A j. bind-passes (s .args .used) (s .pre .room) (s .pre .small) j (sym (c .before .before .before .before .before .before .before .before .tag-of .ensures) ∙ c .before .before .before .before .before .before .if3 .taken) (c .before .before .before .before .if4 .taken) (c .before .before .keep-says .ensures)
 
 returns-4 : tie.Need-returns-4
 returns-4 c =
-    let s = c .before .before .before .before .before .before .before in
-    λ o a A j. bind-fails (s .args .used) (s .pre .room) (s .pre .small) j (c .before .before .if3 .taken) (c .if4 .left)
+    let s = c .before .before .before .before .before .before .before .before in
+    λ o a A j. bind-fails (s .args .used) (s .pre .room) (s .pre .small) j (sym (c .before .before .before .before .tag-of .ensures) ∙ c .before .before .if3 .taken) (c .if4 .left)
 
 kind-requires : tie.Need-kind-requires
 kind-requires c κs = search needs
@@ -76,10 +79,10 @@ add-domain : tie.Need-add-domain
 add-domain c = search needs
 
 mul-domain : tie.Need-mul-domain
-mul-domain c = let w = within (c .before .before .before .before .before .before .before) in omega (arith, c .before .before .before .before .before .before .before .good)
+mul-domain c = let w = within (c .before .before .before .before .before .before .before .before) in omega (arith, c .before .before .before .before .before .before .before .before .good)
 
 shared-slice-read-domain : tie.Need-shared-slice-read-domain
-shared-slice-read-domain c = let w = within (c .before .before .before .before .before .before .before .before) in omega arith
+shared-slice-read-domain c = let w = within (c .before .before .before .before .before .before .before .before .before) in omega arith
 
 domain-requires : tie.Need-domain-requires
 domain-requires c κs = search needs
@@ -88,23 +91,23 @@ add-keep-domain : tie.Need-add-keep-domain
 add-keep-domain c = search needs
 
 keep-domain-requires : tie.Need-keep-domain-requires
-keep-domain-requires c κs = let s = c .before .before .before .before .before .before .before .before .before .before .before .before in let w = within s in (omega (arith, s .pre .room), omega arith, omega (arith, s .pre .short))
+keep-domain-requires c κs = let s = c .before .before .before .before .before .before .before .before .before .before .before .before .before in let w = within s in (omega (arith, s .pre .room), omega arith, omega (arith, s .pre .short))
 
 same-length-2 : tie.Need-same-length-2
 same-length-2 c = search needs
 
 returns-5 : tie.Need-returns-5
 returns-5 c =
-    let s = c .before .before .before .before .before .before .before .before .before .before .before .before .before .before .before in
-    λ o a A j. binder-passes (s .args .used) (s .pre .room) (s .pre .small) j (c .before .before .before .before .before .before .before .before .before .before .if3 .left) (c .before .before .before .before .before .before .before .before .before .kind .ensures) (c .before .before .before .before .before .before .before .before .if5 .taken) (c .before .before .before .before .if6 .taken) (c .before .before .before .before .before .domain .ensures) (c .before .before .keep-domain .ensures)
+    let s = c .before .before .before .before .before .before .before .before .before .before .before .before .before .before .before .before in
+    λ o a A j. binder-passes (s .args .used) (s .pre .room) (s .pre .small) j (λ e. c .before .before .before .before .before .before .before .before .before .before .if3 .left (c .before .before .before .before .before .before .before .before .before .before .before .before .tag-of .ensures ∙ e)) (c .before .before .before .before .before .before .before .before .before .kind .ensures) (c .before .before .before .before .before .before .before .before .if5 .taken) (c .before .before .before .before .if6 .taken) (c .before .before .before .before .before .domain .ensures) (c .before .before .keep-domain .ensures)
 
 same-length-3 : tie.Need-same-length-3
 same-length-3 c = search needs
 
 returns-6 : tie.Need-returns-6
 returns-6 c =
-    let s = c .before .before .before .before .before .before .before .before .before .before .before in
-    λ o a A j. binder-fails (s .args .used) (s .pre .room) (s .pre .small) j (c .before .before .before .before .before .before .if3 .left) (c .before .before .before .before .before .kind .ensures) (c .before .before .before .before .if5 .taken) (c .if6 .left) (c .before .domain .ensures)
+    let s = c .before .before .before .before .before .before .before .before .before .before .before .before in
+    λ o a A j. binder-fails (s .args .used) (s .pre .room) (s .pre .small) j (λ e. c .before .before .before .before .before .before .if3 .left (c .before .before .before .before .before .before .before .before .tag-of .ensures ∙ e)) (c .before .before .before .before .before .kind .ensures) (c .before .before .before .before .if5 .taken) (c .if6 .left) (c .before .domain .ensures)
 
 mul-front-is : tie.Need-mul-front-is
 mul-front-is c = search needs
@@ -117,16 +120,16 @@ same-length-4 c = search needs
 
 returns-7 : tie.Need-returns-7
 returns-7 c =
-    let s = c .before .before .before .before .before .before .before .before .before .before in
-    λ o a A j. plain-passes (s .args .used) (s .pre .room) (s .pre .small) j (c .before .before .before .before .before .before .if1 .left) (c .before .before .before .before .kind .ensures) (c .before .before .before .if5 .left) (c .if7 .taken) (c .before .front-is .ensures A prinA (j .type) (j .type-words) refl tt)
+    let s = c .before .before .before .before .before .before .before .before .before .before .before in
+    λ o a A j. plain-passes (s .args .used) (s .pre .room) (s .pre .small) j (λ e. c .before .before .before .before .before .before .if1 .left (c .before .before .before .before .before .before .before .tag-of .ensures ∙ e)) (c .before .before .before .before .kind .ensures) (c .before .before .before .if5 .left) (c .if7 .taken) (c .before .front-is .ensures A prinA (j .type) (j .type-words) refl tt)
 
 same-length-5 : tie.Need-same-length-5
 same-length-5 c = search needs
 
 returns-8 : tie.Need-returns-8
 returns-8 c =
-    let s = c .before .before .before .before .before .before .before .before .before .before in
-    λ o a A j. plain-fails (s .args .used) (s .pre .room) (s .pre .small) j (c .before .before .before .before .before .before .if1 .left) (c .before .before .before .before .kind .ensures) (c .before .before .before .if5 .left) (c .if7 .left) (c .before .front-is .ensures A prinA (j .type) (j .type-words) refl tt)
+    let s = c .before .before .before .before .before .before .before .before .before .before .before in
+    λ o a A j. plain-fails (s .args .used) (s .pre .room) (s .pre .small) j (λ e. c .before .before .before .before .before .before .if1 .left (c .before .before .before .before .before .before .before .tag-of .ensures ∙ e)) (c .before .before .before .before .kind .ensures) (c .before .before .before .if5 .left) (c .if7 .left) (c .before .front-is .ensures A prinA (j .type) (j .type-words) refl tt)
 
 pub enter-spec : {M : Type 1} → statement M
 enter-spec =
@@ -134,6 +137,7 @@ enter-spec =
     (tie.spec
     mul-word
     shared-slice-read-word
+    tag-of-requires
     slice-read-if2
     mul-if2
     returns

@@ -71,34 +71,37 @@ slice-write-ws c = search needs
 mul-ws-2 : tie.Need-mul-ws-2
 mul-ws-2 c = search needs
 
-mul-ws-3 : tie.Need-mul-ws-3
-mul-ws-3 c = let z = sizes (c .before .before .before .before .before .before) in omega arith
+mul-payload-of : tie.Need-mul-payload-of
+mul-payload-of c = let z = sizes (c .before .before .before .before .before .before) in omega arith
 
-shared-slice-read-ws : tie.Need-shared-slice-read-ws
-shared-slice-read-ws c = let z = sizes (c .before .before .before .before .before .before .before) in omega arith
+shared-slice-read-payload-of : tie.Need-shared-slice-read-payload-of
+shared-slice-read-payload-of c = let z = sizes (c .before .before .before .before .before .before .before) in omega arith
+
+payload-of-requires : tie.Need-payload-of-requires
+payload-of-requires c κs = search needs
 
 add-ws : tie.Need-add-ws
 add-ws c = search needs
 
 slice-write-ws-2 : tie.Need-slice-write-ws-2
-slice-write-ws-2 c = let z = sizes (c .before .before .before .before .before .before .before) in let l = length-set (c .before .before .before .before .before .before .before .args .ws .now) 0 (opWord saysO) in omega (arith, l, z)
+slice-write-ws-2 c = let z = sizes (c .before .before .before .before .before .before .before .before) in let l = length-set (c .before .before .before .before .before .before .before .before .args .ws .now) 0 (opWord saysO) in omega (arith, l, z)
 
 add-copy : tie.Need-add-copy
-add-copy c = let z = sizes (c .before .before .before .before .before .before .before) in omega arith
+add-copy c = let z = sizes (c .before .before .before .before .before .before .before .before) in omega arith
 
 sub-copy : tie.Need-sub-copy
-sub-copy c = let z = sizes (c .before .before .before .before .before .before .before) in omega arith
+sub-copy c = let z = sizes (c .before .before .before .before .before .before .before .before) in omega arith
 
 copy-requires : tie.Need-copy-requires
-copy-requires c κs = let z = sizes (c .before .before .before .before .before .before .before .before) in let w = c .before .before .if2 .left in (omega arith, simp length-set (omega (arith, z, w)))
+copy-requires c κs = let z = sizes (c .before .before .before .before .before .before .before .before .before) in let w = c .before .before .before .if2 .left in (omega arith, simp length-set (omega (arith, z, w)))
 
 same-length-3 : tie.Need-same-length-3
 same-length-3 c = c .before .before .copy .kept .1 .1 .1 .0 ∙ simp length-set
 
 returns-3 : tie.Need-returns-3
 returns-3 c =
-    let a = c .before .before .before .before .before .before .before .before .before .before .before .args in
-    λ x q s j. sign-done (a .proof .now) (a .ws .now) (a .at) (a .n) (a .end) x q s j (c .before .before .before .before .before .before .before .front-is .result) (fine (c .before .before .before .before .before .before .before) x q s j) (c .before .before .before .before .before .before .if1 .left) _ (c .before .before .before .before .before .if2 .left) (omega (arith, c .before .before .before .before .before .before .before .before .before .before .before .pre .room)) (c .before .before .copy .ensures)
+    let a = c .before .before .before .before .before .before .before .before .before .before .before .before .args in
+    λ x q s j. sign-done (a .proof .now) (a .ws .now) (a .at) (a .n) (a .end) x q s j (c .before .before .before .before .before .before .before .before .front-is .result) (fine (c .before .before .before .before .before .before .before .before) x q s j) (c .before .before .before .before .before .before .before .if1 .left) _ (c .before .before .before .before .payload-of .result) (c .before .before .before .before .payload-of .ensures) (c .before .before .before .before .before .before .if2 .left) (omega (arith, c .before .before .before .before .before .before .before .before .before .before .before .before .pre .room)) (c .before .before .copy .ensures)
 
 pub sign-spec : {M : Type 1} → statement M
 sign-spec =
@@ -115,8 +118,9 @@ sign-spec =
     mul-ws
     slice-write-ws
     mul-ws-2
-    mul-ws-3
-    shared-slice-read-ws
+    mul-payload-of
+    shared-slice-read-payload-of
+    payload-of-requires
     add-ws
     slice-write-ws-2
     add-copy

@@ -31,6 +31,7 @@ use Rattle.rules.proofs.formed.formed.Reads as formed-reads
 use Rattle.rules.proofs.scope.variable.Reads as variable-reads
 use Rattle.rules.proofs.sign.sign.Reads as sign-reads
 use Rattle.logic.proofs.word.kind.Reads as kind-reads
+use Rattle.logic.proofs.word.payload_of.Reads as payload-of-reads
 use Rattle.typing.proofs.derive.+derive.{statement}
 use Rattle.typing.proofs.derive.+derive.Tie.{close}
 
@@ -46,7 +47,7 @@ below t = and 4 kinds.ps (falls 4 kinds.ps _<_ μ-derive t) derive.Pre
 
 -- what the code that it calls asks and tells
 abbrev calls : ℕ → lts.Claims
-calls t = (kind-reads.Asked, kind-reads.Learnt, atom-reads.Asked, atom-reads.Learnt, variable-reads.Asked, variable-reads.Learnt, below t, derive.Post, sign-reads.Asked, sign-reads.Learnt, enter-reads.Asked, enter-reads.Learnt, formed-reads.Asked, formed-reads.Learnt)
+calls t = (kind-reads.Asked, kind-reads.Learnt, atom-reads.Asked, atom-reads.Learnt, payload-of-reads.Asked, payload-of-reads.Learnt, variable-reads.Asked, variable-reads.Learnt, below t, derive.Post, sign-reads.Asked, sign-reads.Learnt, enter-reads.Asked, enter-reads.Learnt, formed-reads.Asked, formed-reads.Learnt)
 
 -- ---- what is known at some places
 
@@ -124,18 +125,21 @@ returns t c =
     let s = c .before .before .before .before .before .before .before .before .before .before .before in
     λ Σ Γ u R. atom-derived (c .before .before .before .before .before .kind .result) _ (c .before .before .atom .result) (c .before .before .atom .kept .1 .1 .0) (omega (arith, s .pre .1 .room)) u (c .before .before .before .before .if1 .taken) (kind-known t (c .before .before .before .before .before) u (R .here)) R (c .before .before .atom .ensures)
 
+payload-of-requires : (t : ℕ) → lts.Need-payload-of-requires (calls t) (given t) derive.Post
+payload-of-requires t c κs = search needs
+
 variable-requires : (t : ℕ) → lts.Need-variable-requires (calls t) (given t) derive.Post
 variable-requires t c κs =
-    let p = c .before .before .before .before .before .before .before .before .before .pre .1 in
-    record { Γ = p .Γ; binders = p .ready .binders; few = omega (arith, p .ready .few); number = omega arith; below = p .below; room = omega (arith, p .room); place = omega (arith, p .short, place-within t (c .before .before .before .before .before .before .before .before .before)) }
+    let p = c .before .before .before .before .before .before .before .before .before .before .pre .1 in
+    record { Γ = p .Γ; binders = p .ready .binders; few = omega (arith, p .ready .few); number = omega (arith, c .payload-of .ensures); below = p .below; room = omega (arith, p .room); place = omega (arith, p .short, place-within t (c .before .before .before .before .before .before .before .before .before .before)) }
 
 same-length-2 : (t : ℕ) → lts.Need-same-length-2 (calls t) (given t) derive.Post
 same-length-2 t c = search needs
 
 returns-2 : (t : ℕ) → lts.Need-returns-2 (calls t) (given t) derive.Post
 returns-2 t c =
-    let s = c .before .before .before .before .before .before .before .before .before .before .before .before in
-    λ Σ Γ u R. variable-derived (c .before .before .before .before .before .before .kind .result) _ (c .before .before .variable .result) (c .before .before .variable .kept .1 .0) (omega (arith, s .pre .1 .room)) u (c .before .before .before .before .if2 .taken) (kind-known t (c .before .before .before .before .before .before) u (R .here)) R (c .before .before .variable .ensures)
+    let s = c .before .before .before .before .before .before .before .before .before .before .before .before .before in
+    λ Σ Γ u R. variable-derived (c .before .before .before .before .before .before .before .kind .result) _ (c .before .before .variable .result) (c .before .before .variable .kept .1 .0) (omega (arith, s .pre .1 .room)) u (c .before .before .before .before .before .if2 .taken) (kind-known t (c .before .before .before .before .before .before .before) u (R .here)) R (c .before .before .before .payload-of .result) (c .before .before .before .payload-of .ensures) (c .before .before .variable .ensures)
 
 add-derive : (t : ℕ) → lts.Need-add-derive (calls t) (given t) derive.Post
 add-derive t c = let r = place-within t (c .before .before .before .before .before .before .before .before .before .before) in omega arith
@@ -305,6 +309,7 @@ pub +derive-spec : {M : Type 1} → statement M
     (atom-requires t)
     (same-length t)
     (returns t)
+    (payload-of-requires t)
     (variable-requires t)
     (same-length-2 t)
     (returns-2 t)

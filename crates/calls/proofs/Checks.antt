@@ -1,0 +1,219 @@
+-- A call's own tests, behind those that calls share; and the check of a term.
+use Prim.Native.Nat.{ℕ, _+_, _≤_}
+use native.Mathlib.Omega.{arith}
+use mathlib.Core.Path.{_≡_, refl, sym, ap, ap₂, subst, _∙_, fun-ext}
+use mathlib.Core.Bool.{Bool, true, false, _&&_}
+use mathlib.Core.List.{List, []}
+use mathlib.Core.Option.{Option, some, none}
+use lib.Dec.{leb}
+use lib.ListN.{length, take, length-take}
+use lib.Seq.{take-at}
+use Rattle.logic.specs.Limits.{least-workspace, most-words, most-nesting}
+use Rattle.logic.specs.Refusals.{workspace-short, bad-number, not-held}
+use Rattle.logic.specs.Result.{Result, ok, refused, _>>=_, _>>_, require, nowhere}
+use Rattle.logic.specs.Term.{Term, encode, size}
+use Rattle.logic.specs.SignatureList.{signature, operations-test}
+use Rattle.logic.specs.Infer.{infer}
+use Rattle.logic.specs.Reading.{read-whole, first-unheld}
+use Rattle.logic.specs.Check.{term-of, check-term, Checked, WordsOf}
+use Rattle.logic.proofs.Basics.{clash}
+use Rattle.logic.proofs.Words.{encode-size}
+use Rattle.logic.proofs.Check.{term-of-right}
+use Rattle.words.specs.Place.{Is}
+use Rattle.words.specs.Typed.{TypeAt}
+use Rattle.words.proofs.Places.{end-of}
+use Rattle.rules.specs.Form.{answer-of, Front}
+use Rattle.rules.specs.declared.derivation.Derivation.{Derivation}
+use Rattle.rules.specs.declared.derivation.Derivation.the-variants.{Typed, Refused}
+use Rattle.typing.specs.Check.{Constants-of, typed-term, Judged}
+use Rattle.records.specs.Answers.{unheldOf}
+use Rattle.records.specs.declared.search.Unheld.{Unheld}
+use Rattle.records.specs.declared.search.Unheld.the-variants.{Nowhere, At}
+use Rattle.register.specs.Records.{Record, header, used, register-records, held}
+use Rattle.register.specs.Calls.{Lent, View, view, length-test, shared, on-register, Holding, signs-held, check-own, check-call}
+use Rattle.calls.specs.Answers.{Handed}
+use Rattle.calls.specs.Shared.{prepared, opened, Lent-so, Register-so, Prepared-as, Opened-as}
+use Rattle.calls.specs.declared.shared.Ready.{Ready}
+use Rattle.calls.specs.declared.shared.Ready.the-variants.{Constants, Fault}
+
+-- ---- a call's own tests come behind the shared ones
+
+then-bind : {X Y Z : Type 0} (a : Result X) (r : Result Y) (g : Y → Result Z) → ((a >> r) >>= g) ≡ (a >> (r >>= g))
+then-bind (ok x) r g = refl
+then-bind (refused m p) r g = refl
+
+bind-bind : {X Y Z : Type 0} (r : Result X) (f : X → Result Y) (g : Y → Result Z) → ((r >>= f) >>= g) ≡ (r >>= λ x. f x >>= g)
+bind-bind (ok x) f g = refl
+bind-bind (refused m p) f g = refl
+
+pub own-tests : {Y : Type 0} (l : Lent) (len words : ℕ) (records : Result (List Record)) (own : View → Result Y) → shared l len words records own ≡ (shared l len words records ok >>= own)
+own-tests l len words records own =
+    sym (then-bind (require (leb least-workspace (l .workspace)) workspace-short 0) _ own ∙ ap (λ x. require (leb least-workspace (l .workspace)) workspace-short 0 >> x)
+    (then-bind (length-test len) _ own ∙ ap (λ x. length-test len >> x)
+    (bind-bind records _ own ∙ ap (λ k. records >>= k) (fun-ext λ rs.
+    bind-bind (signature (l .sig)) _ own ∙ ap (λ k. signature (l .sig) >>= k) (fun-ext λ Σ.
+    then-bind (require (operations-test Σ (l .n)) bad-number 0) (ok (view l len words rs Σ)) own)))))
+
+module _ {Y : Type 0} (l : Lent) (reg table : List ℕ) (r : Ready) (own : View → Result Y) (P : Prepared-as (prepared l reg) l reg table r) where
+  -- the shared tests refused
+  pub not-prepared : (m p : ℕ) → r ≡ Fault m p → on-register l reg own ≡ refused m p
+  not-prepared m p q = own-tests l (length reg) (used reg) (register-records reg) own ∙ go (prepared l reg) P
+    where
+      go : (x : Result View) → Prepared-as x l reg table r → (x >>= own) ≡ refused m p
+      go (ok v) R = let h = R .lent-so .answer in absurd (clash (cc))
+      go (refused m′ p′) e = cc
+
+  -- or found a register that is not broken and a signature that is accepted
+  pub record Passed-so (count : ℕ) : Type 0 where
+    pub rs : List Record
+    pub reads : register-records reg ≡ ok rs
+    pub Σ : List Term
+    pub counted : count ≡ length Σ
+    pub constants : Constants-of (l .sig) (take count table) Σ
+    pub lent-so : Lent-so l (length reg) (used reg) rs table (view l (length reg) (used reg) rs Σ) r
+    pub is : on-register l reg own ≡ own (view l (length reg) (used reg) rs Σ)
+
+  pub passed-so : (count : ℕ) → r ≡ Constants count → Passed-so count
+  passed-so count q = go (prepared l reg) refl P
+    where
+      go : (x : Result View) → prepared l reg ≡ x → Prepared-as x l reg table r → Passed-so count
+      go (ok v) e R =
+          let S = R .lent-so in
+          let a = S .answer in
+          let n : count ≡ length (S .Σ) = cc in
+          let w : View = view l (length reg) (used reg) (R .rs) (S .Σ) in
+          record {
+            rs = R .rs;
+            reads = R .reads;
+            Σ = S .Σ;
+            counted = n;
+            constants = subst (λ (i : ℕ). Constants-of (l .sig) (take i table) (S .Σ)) (sym n) (S .constants);
+            lent-so = record { Σ = S .Σ; is = refl; answer = S .answer; constants = S .constants; workspace = S .workspace; not-shorter = S .not-shorter; not-longer = S .not-longer };
+            is = own-tests l (length reg) (used reg) (register-records reg) own ∙ ap (λ x. x >>= own) e ∙ ap own (S .is);
+          }
+      go (refused m p) e f = absurd (clash (cc))
+
+-- ---- a term's type
+
+-- a term with its type
+abbrev with-type : Term → Result Term → Result Checked
+with-type t x = x >>= λ A. ok (record { term = t; type = A })
+
+abbrev with-types : List Term → Result Term → Result Checked
+with-types Σ x = x >>= λ t. with-type t (infer Σ [] 0 t)
+
+pub record Typed-so (Σ : List Term) (ws : List ℕ) (A : Term) : Type 0 where
+  pub term : Term
+  pub is : check-term Σ ws ≡ ok (record { term = term; type = A })
+  pub term-is : Is ws term
+
+pub typed-so : (Σ : List Term) (ws : List ℕ) (A : Term) → typed-term Σ most-words most-nesting ws ≡ ok A → Typed-so Σ ws A
+typed-so Σ ws A e = go (term-of most-words most-nesting ws) refl e
+  where
+    go : (x : Result Term) → term-of most-words most-nesting ws ≡ x → (x >>= λ t. infer Σ [] 0 t) ≡ ok A → Typed-so Σ ws A
+    go (ok t) f g =
+        let W = term-of-right most-words most-nesting ws t .0 f in
+        record { term = t; is = ap (with-types Σ) f ∙ ap (with-type t) g; term-is = record { plain = W .plain; words = W .words } }
+    go (refused m p) f g = absurd (clash (cc))
+
+pub typed-refused : (Σ : List Term) (ws : List ℕ) (m p : ℕ) → typed-term Σ most-words most-nesting ws ≡ refused m p → check-term Σ ws ≡ refused m p
+typed-refused Σ ws m p e = go (term-of most-words most-nesting ws) e
+  where
+    typed : (t : Term) (x : Result Term) → x ≡ refused m p → with-type t x ≡ refused m p
+    typed t (ok A) g = absurd (clash (cc))
+    typed t (refused m′ p′) g = cc
+
+    go : (x : Result Term) → (x >>= λ t. infer Σ [] 0 t) ≡ refused m p → with-types Σ x ≡ refused m p
+    go (ok t) g = typed t (infer Σ [] 0 t) g
+    go (refused m′ p′) g = cc
+
+-- what the answer of tests 6 to 12 tells
+pub record Type-found (o : Result Term) (new : List ℕ) (words : ℕ) : Type 0 where
+  pub type : Term
+  pub is : o ≡ ok type
+  pub words-are : words ≡ size type
+  pub front : TypeAt new 0 type
+
+pub type-found : (o : Result Term) (end : ℕ) (new : List ℕ) (r : Derivation) (words e : ℕ) → Judged o end new r → r ≡ Typed words e → Type-found o new words
+type-found o end new r words e J q = go o refl (sym q ∙ J .answer) (J .front)
+  where
+    go : (x : Result Term) → o ≡ x → Typed words e ≡ answer-of x end → Front x new → Type-found o new words
+    go (ok A) f g h = record { type = A; is = f; words-are = cc; front = h }
+    go (refused m p) f g h = absurd (clash (cc))
+
+pub type-refused : (o : Result Term) (end : ℕ) (new : List ℕ) (r : Derivation) (m p : ℕ) → Judged o end new r → r ≡ Refused m p → o ≡ refused m p
+type-refused o end new r m p J q = go o (sym q ∙ J .answer)
+  where
+    go : (x : Result Term) → Refused m p ≡ answer-of x end → x ≡ refused m p
+    go (ok A) g = absurd (clash (cc))
+    go (refused m′ p′) g = cc
+
+judged-refused : (o : Result Term) (end : ℕ) (new : List ℕ) (m p : ℕ) → o ≡ refused m p → Judged o end new (Refused m p)
+judged-refused o end new m p e = subst (λ (x : Result Term). Judged x end new (Refused m p)) (sym e) (record { answer = refl; front = tt })
+
+-- test 14
+
+pub unheld-found : (h : Holding) (t : Term) (u : Unheld) (p : ℕ) → u ≡ unheldOf (first-unheld (λ a q. h a (encode q)) 0 t) → u ≡ At p → signs-held h t ≡ refused not-held p
+unfolding unheldOf
+unheld-found h t u p e q = go (first-unheld (λ a q. h a (encode q)) 0 t) (sym q ∙ e)
+  where
+    go : (x : Option ℕ) → At p ≡ unheldOf x → nowhere not-held x ≡ refused not-held p
+    go none f = absurd (clash (cc))
+    go (some p′) f = cc
+
+pub all-held : (h : Holding) (t : Term) (u : Unheld) → u ≡ unheldOf (first-unheld (λ a q. h a (encode q)) 0 t) → u ≡ Nowhere → signs-held h t ≡ ok tt
+unfolding unheldOf
+all-held h t u e q = go (first-unheld (λ a q. h a (encode q)) 0 t) (sym q ∙ e)
+  where
+    go : (x : Option ℕ) → Nowhere ≡ unheldOf x → nowhere not-held x ≡ ok tt
+    go none f = refl
+    go (some p′) f = absurd (clash (cc))
+
+-- ---- check
+
+module _ (l : Lent) (reg table term : List ℕ) (r : Ready) (P : Prepared-as (prepared l reg) l reg table r) where
+  pub check-not-prepared : (new : List ℕ) (m p : ℕ) → r ≡ Fault m p → Judged (check-call l reg term) (length term) new (Refused m p)
+  check-not-prepared new m p q = judged-refused _ _ new m p (not-prepared l reg table r (check-own term) P m p q)
+
+  module _ (count : ℕ) (so : Passed-so l reg table r (check-own term) P count) where
+    pub check-not-typed : (new : List ℕ) (d : Derivation) (m p : ℕ) → Judged (typed-term (so .Σ) most-words most-nesting term) (length term) new d → d ≡ Refused m p → Judged (check-call l reg term) (length term) new d
+    check-not-typed new d m p J e =
+        let h = typed-refused (so .Σ) term m p (type-refused _ _ new d m p J e) in
+        subst (Judged (check-call l reg term) (length term) new) (sym e) (judged-refused _ _ new m p (so .is ∙ ap (λ x. x >>= λ c. signs-held (held (so .rs)) (c .term) >> ok (c .type)) h))
+
+    module _ (new : List ℕ) (d : Derivation) (words e : ℕ) (J : Judged (typed-term (so .Σ) most-words most-nesting term) (length term) new d) (f : d ≡ Typed words e) where
+      pub type-here : Type-found (typed-term (so .Σ) most-words most-nesting term) new words
+      type-here = type-found _ _ new d words e J f
+
+      pub term-here : Typed-so (so .Σ) term (type-here .type)
+      term-here = typed-so (so .Σ) term (type-here .type) (type-here .is)
+
+      check-is : check-call l reg term ≡ (signs-held (held (so .rs)) (term-here .term) >> ok (type-here .type))
+      check-is = so .is ∙ ap (λ x. x >>= λ c. signs-held (held (so .rs)) (c .term) >> ok (c .type)) (term-here .is)
+
+      pub check-unheld : (u : Unheld) (p : ℕ) → u ≡ unheldOf (first-unheld (λ a q. held (so .rs) a (encode q)) 0 (term-here .term)) → u ≡ At p → Judged (check-call l reg term) (length term) new (Refused not-held p)
+      check-unheld u p g h = judged-refused _ _ new not-held p (check-is ∙ ap (λ x. x >> ok (type-here .type)) (unheld-found (held (so .rs)) (term-here .term) u p g h))
+
+      pub check-held : (u : Unheld) → u ≡ unheldOf (first-unheld (λ a q. held (so .rs) a (encode q)) 0 (term-here .term)) → u ≡ Nowhere → Judged (check-call l reg term) (length term) new d
+      check-held u g h =
+          let i : typed-term (so .Σ) most-words most-nesting term ≡ check-call l reg term = type-here .is ∙ sym (check-is ∙ ap (λ x. x >> ok (type-here .type)) (all-held (held (so .rs)) (term-here .term) u g h)) in
+          subst (λ (x : Result Term). Judged x (length term) new d) i J
+
+-- the table's part that is lent
+pub table-within : (l : Lent) (table : List ℕ) (count : ℕ) (Σ : List Term) → count ≡ length Σ → Constants-of (l .sig) (take count table) Σ → count ≤ length table
+table-within l table count Σ e C = omega (arith, length-take count table, C .declared .count)
+
+-- ---- what is handed back
+
+module _ (o : Result Term) (end : ℕ) (new : List ℕ) (r : Derivation) (J : Judged o end new r) where
+  pub words-within : (words e : ℕ) → r ≡ Typed words e → words ≤ length new
+  words-within words e q = let T = type-found o end new r words e J q in omega (arith, T .words-are, end-of new 0 (T .type) (T .front .rest) (T .front .words))
+
+  pub handed-type : (words e : ℕ) → r ≡ Typed words e → Handed o (take words new) 0 0
+  handed-type words e q =
+      let T = type-found o end new r words e J q in
+      let w : take words new ≡ encode (T .type) = ap₂ (λ (i : ℕ) (x : List ℕ). take i x) (T .words-are) (T .front .words) ∙ take-at (encode (T .type)) (T .front .rest) (size (T .type)) (encode-size (T .type)) in
+      subst (λ (x : Result Term). Handed x (take words new) 0 0) (sym (T .is)) (record { part-is = w; number-is = refl; place-is = refl })
+
+  pub handed-nothing : (m p : ℕ) → r ≡ Refused m p → Handed o (take 0 new) m p
+  handed-nothing m p q = subst (λ (x : Result Term). Handed x (take 0 new) m p) (sym (type-refused o end new r m p J q)) (record { part-is = refl; number-is = refl; place-is = refl })

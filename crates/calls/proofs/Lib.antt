@@ -1,0 +1,3 @@
+-- The calls meet their contracts.
+pub mod SharedTests
+pub mod Checks

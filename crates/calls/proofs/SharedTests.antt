@@ -1,0 +1,200 @@
+-- The tests that calls share.
+use Prim.Native.Nat.{ℕ, zero, suc, _+_, _-_, _≤_, _<_}
+use native.Mathlib.Omega.{arith}
+use mathlib.Core.Path.{_≡_, refl, sym, ap, subst, _∙_}
+use mathlib.Core.Bool.{Bool, true, false, _&&_}
+use mathlib.Core.Option.{Option, some, none}
+use mathlib.Core.List.{List, [], _∷_, _++_}
+use lib.Dec.{leb, ltb, eqb}
+use lib.ListN.{length, take, drop, length-take}
+use borrow.Author.Tests.{le-leb, lt-leb, leb-true}
+use Rattle.logic.specs.Limits.{most-constants, most-constant-words, least-workspace, least-register, most-register}
+use Rattle.logic.specs.Refusals.{workspace-short, register-length, register-broken, bad-signature, bad-number}
+use Rattle.logic.specs.Result.{Result, ok, refused, _>>=_, _>>_, require, known}
+use Rattle.logic.specs.Term.{Term}
+use Rattle.logic.specs.SignatureList.{at-constant, constant, constants, signature, operations-test}
+use Rattle.logic.proofs.Basics.{clash}
+use Rattle.logic.proofs.Results.{both-true, true-both}
+use Rattle.rules.specs.Scope.{Declared}
+use Rattle.typing.specs.Check.{Constants-of, Read-as}
+use Rattle.typing.proofs.Accepted.{signature-number, Constants-read}
+use Rattle.typing.specs.declared.signature.Listed.{Listed}
+use Rattle.typing.specs.declared.signature.Listed.the-variants.{Accepted, Bad}
+use Rattle.records.specs.Answers.{contentsOf}
+use Rattle.records.specs.declared.walk.Contents.{Contents}
+use Rattle.records.specs.declared.walk.Contents.the-variants.{Broken, Whole}
+use Rattle.register.specs.Records.{Record, header, used, count, records, register-records}
+use Rattle.register.specs.Calls.{Lent, View, view, length-test, shared, on-register}
+use Rattle.calls.specs.Answers.{number-of}
+use Rattle.calls.specs.Shared.{lengths-test, lent-of, signed, Signed-as, prepared, opened, Lent-so, Register-so, Prepared-as, Opened-as}
+use Rattle.calls.specs.declared.shared.Ready.{Ready}
+use Rattle.calls.specs.declared.shared.Ready.the-variants.{Constants, Fault}
+
+-- ---- tests 1 and 2
+
+module _ (workspace register : ℕ) where
+  pub short-workspace : workspace < least-workspace → workspace-short ≡ number-of (lengths-test workspace register)
+  short-workspace h = sym (ap (λ (b : Bool). number-of (require b workspace-short 0 >> length-test register)) (lt-leb least-workspace workspace h))
+
+  module _ (enough : least-workspace ≤ workspace) where
+    past-workspace : lengths-test workspace register ≡ length-test register
+    past-workspace = ap (λ (b : Bool). require b workspace-short 0 >> length-test register) (le-leb least-workspace workspace enough)
+
+    pub short-register : register < least-register → register-length ≡ number-of (lengths-test workspace register)
+    short-register h = sym (ap number-of past-workspace ∙ ap (λ (b : Bool). number-of (require (b && leb register most-register) register-length 0)) (lt-leb least-register register h))
+
+    module _ (not-shorter : least-register ≤ register) where
+      past-least : lengths-test workspace register ≡ require (leb register most-register) register-length 0
+      past-least = past-workspace ∙ ap (λ (b : Bool). require (b && leb register most-register) register-length 0) (le-leb least-register register not-shorter)
+
+      pub long-register : most-register < register → register-length ≡ number-of (lengths-test workspace register)
+      long-register h = sym (ap number-of past-least ∙ ap (λ (b : Bool). number-of (require b register-length 0)) (lt-leb register most-register h))
+
+      pub fine-lengths : register ≤ most-register → 0 ≡ number-of (lengths-test workspace register)
+      fine-lengths h = sym (ap number-of past-least ∙ ap (λ (b : Bool). number-of (require b register-length 0)) (le-leb register most-register h))
+
+-- the limits are met where neither refuses
+pub record Lengths (workspace register : ℕ) : Type 0 where
+  pub workspace-fits : least-workspace ≤ workspace
+  pub not-shorter : least-register ≤ register
+  pub not-longer : register ≤ most-register
+  pub passed : lengths-test workspace register ≡ ok tt
+
+pub lengths-fine : (workspace register : ℕ) → 0 ≡ number-of (lengths-test workspace register) → Lengths workspace register
+lengths-fine w r e = go (leb least-workspace w) (leb least-register r) (leb r most-register) refl refl refl e
+  where
+    go : (a b c : Bool) → leb least-workspace w ≡ a → leb least-register r ≡ b → leb r most-register ≡ c → 0 ≡ number-of (require a workspace-short 0 >> require (b && c) register-length 0) → Lengths w r
+    go false b c p q s e = absurd (omega arith)
+    go true false c p q s e = absurd (omega arith)
+    go true true false p q s e = absurd (omega arith)
+    go true true true p q s e = record {
+      workspace-fits = leb-true least-workspace w p;
+      not-shorter = leb-true least-register r q;
+      not-longer = leb-true r most-register s;
+      passed = ap (λ (x : Bool). require x workspace-short 0 >> length-test r) p ∙ ap (λ (x : Bool). require x register-length 0) (true-both q s);
+    }
+
+-- what they refuse, they refuse at place 0
+pub lengths-refused : (workspace register number : ℕ) → number ≡ number-of (lengths-test workspace register) → (number ≡ 0 → ⊥) → lengths-test workspace register ≡ refused number 0
+lengths-refused w r number e n = go (leb least-workspace w) (leb least-register r && leb r most-register) e
+  where
+    go : (a b : Bool) → number ≡ number-of (require a workspace-short 0 >> require b register-length 0) → (require a workspace-short 0 >> require b register-length 0) ≡ refused number 0
+    go false b e = ap (λ (m : ℕ). refused m 0) (sym e)
+    go true false e = ap (λ (m : ℕ). refused m 0) (sym e)
+    go true true e = absurd (n e)
+
+-- ---- tests 4 and 5
+
+pub signature-bad : (sig table : List ℕ) (n p : ℕ) (r : Listed) → Read-as (signature sig) sig table r → r ≡ Bad p → Signed-as (signed sig n) sig table (Fault bad-signature p)
+signature-bad sig table n p r R q = go (signature sig) refl (subst (Read-as (signature sig) sig table) q R)
+  where
+    go : (x : Result (List Term)) → signature sig ≡ x → Read-as x sig table (Bad p) → Signed-as (x >>= λ Σ. require (operations-test Σ n) bad-number 0 >> ok Σ) sig table (Fault bad-signature p)
+    go (ok Σ) e (f, c) = absurd (clash (cc))
+    go (refused m p′) e f = let h = signature-number sig e in cc
+
+module _ (sig table : List ℕ) (n count : ℕ) (C : Constants-read sig table count) where
+  signed-is : signed sig n ≡ (require (operations-test (C .Σ) n) bad-number 0 >> ok (C .Σ))
+  signed-is = ap (λ x. x >>= λ Σ. require (operations-test Σ n) bad-number 0 >> ok Σ) (C .is)
+
+  pub operations-fit : (b : Bool) → b ≡ operations-test (C .Σ) n → b ≡ true → Signed-as (signed sig n) sig table (Constants count)
+  operations-fit b e q =
+      let h : signed sig n ≡ ok (C .Σ) = signed-is ∙ ap (λ (x : Bool). require x bad-number 0 >> ok (C .Σ)) (sym e ∙ q) in
+      subst (λ (x : Result (List Term)). Signed-as x sig table (Constants count)) (sym h) (ap Constants (C .counted), subst (λ (i : ℕ). Constants-of sig (take i table) (C .Σ)) (C .counted) (C .constants-are))
+
+  pub operations-unfit : (b : Bool) → b ≡ operations-test (C .Σ) n → b ≡ false → Signed-as (signed sig n) sig table (Fault bad-number 0)
+  operations-unfit b e q =
+      let h : signed sig n ≡ refused bad-number 0 = signed-is ∙ ap (λ (x : Bool). require x bad-number 0 >> ok (C .Σ)) (sym e ∙ q) in
+      subst (λ (x : Result (List Term)). Signed-as x sig table (Fault bad-number 0)) (sym h) refl
+
+-- ---- all of them, before a call's own tests
+
+then-passed : {Y : Type 0} (a b : Result (Unit {0})) (c : Result Y) → (a >> b) ≡ ok tt → (a >> (b >> c)) ≡ c
+then-passed (ok x) (ok y) c e = refl
+then-passed (ok x) (refused m p) c e = absurd (clash (cc))
+then-passed (refused m p) b c e = absurd (clash (cc))
+
+then-refused : {Y : Type 0} (a b : Result (Unit {0})) (c : Result Y) {m p : ℕ} → (a >> b) ≡ refused m p → (a >> (b >> c)) ≡ refused m p
+then-refused (ok x) (ok y) c e = absurd (clash (cc))
+then-refused (ok x) (refused m p) c e = cc
+then-refused (refused m p) b c e = cc
+
+module _ {Y : Type 0} (l : Lent) (len words : ℕ) (own : View → Result Y) where
+  -- tests 4 and 5, and then the call's own
+  rest : List Record → Result Y
+  rest rs = signed (l .sig) (l .n) >>= λ Σ. own (view l len words rs Σ)
+
+  signed-then : (rs : List Record) → (signature (l .sig) >>= λ Σ. require (operations-test Σ (l .n)) bad-number 0 >> own (view l len words rs Σ)) ≡ rest rs
+  unfolding rest
+  signed-then rs = go (signature (l .sig))
+    where
+      tests : (b : Bool) (Σ : List Term) → (require b bad-number 0 >> own (view l len words rs Σ)) ≡ ((require b bad-number 0 >> ok Σ) >>= λ Σ. own (view l len words rs Σ))
+      tests true Σ = refl
+      tests false Σ = refl
+
+      go : (x : Result (List Term)) → (x >>= λ Σ. require (operations-test Σ (l .n)) bad-number 0 >> own (view l len words rs Σ)) ≡ ((x >>= λ Σ. require (operations-test Σ (l .n)) bad-number 0 >> ok Σ) >>= λ Σ. own (view l len words rs Σ))
+      go (ok Σ) = tests (operations-test Σ (l .n)) Σ
+      go (refused m p) = refl
+
+  pub shared-refused : (records : Result (List Record)) {m p : ℕ} → lengths-test (l .workspace) len ≡ refused m p → shared l len words records own ≡ refused m p
+  shared-refused records e = then-refused (require (leb least-workspace (l .workspace)) workspace-short 0) (length-test len) _ e
+
+  pub shared-broken : (records : Result (List Record)) {m p : ℕ} → lengths-test (l .workspace) len ≡ ok tt → records ≡ refused m p → shared l len words records own ≡ refused m p
+  shared-broken records e r = then-passed (require (leb least-workspace (l .workspace)) workspace-short 0) (length-test len) _ e ∙ ap (λ x. x >>= λ rs. signature (l .sig) >>= λ Σ. require (operations-test Σ (l .n)) bad-number 0 >> own (view l len words rs Σ)) r
+
+  pub shared-signed : (records : Result (List Record)) (rs : List Record) → lengths-test (l .workspace) len ≡ ok tt → records ≡ ok rs → shared l len words records own ≡ (signed (l .sig) (l .n) >>= λ Σ. own (view l len words rs Σ))
+  unfolding rest
+  shared-signed records rs e r = then-passed (require (leb least-workspace (l .workspace)) workspace-short 0) (length-test len) _ e
+      ∙ ap (λ x. x >>= λ rs. signature (l .sig) >>= λ Σ. require (operations-test Σ (l .n)) bad-number 0 >> own (view l len words rs Σ)) r ∙ signed-then rs
+
+-- the shared tests found what the table and the answer say
+lent-so : (l : Lent) (len words : ℕ) (rs : List Record) (table : List ℕ) (r : Ready) → Lengths (l .workspace) len → (Σ : List Term) → signed (l .sig) (l .n) ≡ ok Σ → Signed-as (ok Σ) (l .sig) table r → Lent-so l len words rs table (view l len words rs Σ) r
+lent-so l len words rs table r L Σ e (q, c) = record { Σ = Σ; is = refl; answer = q; constants = c; workspace = L .workspace-fits; not-shorter = L .not-shorter; not-longer = L .not-longer }
+
+pub opened-as : (l : Lent) (len : ℕ) (table : List ℕ) (r : Ready) → Lengths (l .workspace) len → Signed-as (signed (l .sig) (l .n)) (l .sig) table r → Opened-as (opened l len) l len table r
+opened-as l len table r L S = subst (λ (x : Result View). Opened-as x l len table r) (sym (shared-signed l len header ok (ok []) [] (L .passed) refl)) (go (signed (l .sig) (l .n)) refl S)
+  where
+    go : (x : Result (List Term)) → signed (l .sig) (l .n) ≡ x → Signed-as x (l .sig) table r → Opened-as (x >>= λ Σ. ok (view l len header [] Σ)) l len table r
+    go (ok Σ) e s = lent-so l len header [] table r L Σ e s
+    go (refused m p) e s = s
+
+pub opened-refused : (l : Lent) (len : ℕ) (table : List ℕ) (number : ℕ) → number ≡ number-of (lengths-test (l .workspace) len) → (number ≡ 0 → ⊥) → Opened-as (opened l len) l len table (Fault number 0)
+opened-refused l len table number e n = subst (λ (x : Result View). Opened-as x l len table (Fault number 0)) (sym (shared-refused l len header ok (ok []) (lengths-refused (l .workspace) len number e n))) refl
+
+-- a register is refused by 3 only
+broken-number : (reg : List ℕ) {m p : ℕ} → register-records reg ≡ refused m p → (m ≡ register-broken) × (p ≡ 0)
+broken-number reg e = go (leb header (used reg) && leb (used reg) (length reg)) (records (used reg) (take (used reg - header) (drop header reg))) e
+  where
+    counted : (b : Bool) (rs : List Record) {m p : ℕ} → (require b register-broken 0 >> ok rs) ≡ refused m p → (m ≡ register-broken) × (p ≡ 0)
+    counted true rs e = absurd (clash (cc))
+    counted false rs e = (cc, cc)
+
+    go : (b : Bool) (o : Option (List Record)) {m p : ℕ} → (require b register-broken 0 >> (known register-broken 0 o >>= λ rs. require (eqb (length rs) (count reg)) register-broken 0 >> ok rs)) ≡ refused m p → (m ≡ register-broken) × (p ≡ 0)
+    go false o e = (cc, cc)
+    go true none e = (cc, cc)
+    go true (some rs) e = counted (eqb (length rs) (count reg)) rs e
+
+module _ (l : Lent) (reg table : List ℕ) where
+  pub prepared-refused : (number : ℕ) → number ≡ number-of (lengths-test (l .workspace) (length reg)) → (number ≡ 0 → ⊥) → Prepared-as (prepared l reg) l reg table (Fault number 0)
+  prepared-refused number e n = subst (λ (x : Result View). Prepared-as x l reg table (Fault number 0)) (sym (shared-refused l (length reg) (used reg) ok (register-records reg) (lengths-refused (l .workspace) (length reg) number e n))) refl
+
+  pub prepared-broken : (c : Contents) → Lengths (l .workspace) (length reg) → c ≡ contentsOf (register-records reg) → c ≡ Broken → Prepared-as (prepared l reg) l reg table (Fault register-broken 0)
+  unfolding contentsOf
+  prepared-broken c L e q = go (register-records reg) refl (sym e ∙ q)
+    where
+      go : (x : Result (List Record)) → register-records reg ≡ x → contentsOf x ≡ Broken → Prepared-as (prepared l reg) l reg table (Fault register-broken 0)
+      go (ok rs) f h = absurd (clash (cc))
+      go (refused m p) f h =
+          let (a, b) = broken-number reg f in
+          subst (λ (x : Result View). Prepared-as x l reg table (Fault register-broken 0)) (sym (shared-broken l (length reg) (used reg) ok (register-records reg) (L .passed) f)) (cc)
+
+  pub prepared-as : (c : Contents) (k : ℕ) (r : Ready) → Lengths (l .workspace) (length reg) → c ≡ contentsOf (register-records reg) → c ≡ Whole k → Signed-as (signed (l .sig) (l .n)) (l .sig) table r → Prepared-as (prepared l reg) l reg table r
+  unfolding contentsOf
+  prepared-as c k r L e q S = go (register-records reg) refl (sym e ∙ q)
+    where
+      signs : (rs : List Record) → register-records reg ≡ ok rs → (x : Result (List Term)) → signed (l .sig) (l .n) ≡ x → Signed-as x (l .sig) table r → Prepared-as (x >>= λ Σ. ok (view l (length reg) (used reg) rs Σ)) l reg table r
+      signs rs f (ok Σ) e s = record { rs = rs; reads = f; lent-so = lent-so l (length reg) (used reg) rs table r L Σ e s }
+      signs rs f (refused m p) e s = s
+
+      go : (x : Result (List Record)) → register-records reg ≡ x → contentsOf x ≡ Whole k → Prepared-as (prepared l reg) l reg table r
+      go (refused m p) f h = absurd (clash (cc))
+      go (ok rs) f h = subst (λ (x : Result View). Prepared-as x l reg table r) (sym (shared-signed l (length reg) (used reg) ok (register-records reg) rs (L .passed) f)) (signs rs f (signed (l .sig) (l .n)) refl S)

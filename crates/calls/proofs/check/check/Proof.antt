@@ -1,0 +1,43 @@
+use mathlib.Core.Path.{sym}
+use lib.Seq.{length-take-le}
+use Rattle.calls.proofs.Checks.{words-within, handed-type, handed-nothing}
+use native.Mathlib.Omega.{arith}
+use borrow.Author.Needs.{needs}
+use Rattle.calls.proofs.check.check.Statement.{statement}
+use Rattle.calls.proofs.check.check.Tie as tie
+use Rattle.calls.proofs.check.check.Reads as reads
+use Rattle.calls.proofs.check.check.Lts as lts
+use Rattle.calls.proofs.check.judge.Reads as judge-reads
+
+judge-requires : tie.Need-judge-requires
+judge-requires c κs = search needs
+
+enum-known-judged : tie.Need-enum-known-judged
+enum-known-judged c = search needs
+
+slice-aggregate-result : tie.Need-slice-aggregate-result
+slice-aggregate-result c = sym (length-take-le (c .before .before .judged .given .0 .0) (c .before .before .before .before .before .before .judge .last .1 .1 .1 .1 .0) (words-within _ _ (c .before .before .before .before .before .before .judge .last .1 .1 .1 .1 .0) (c .before .before .before .before .before .before .judge .result) (c .before .before .before .before .before .before .judge .ensures) _ _ (c .before .before .judged .given .1)))
+
+enum-known-judged-2 : tie.Need-enum-known-judged-2
+enum-known-judged-2 c = search needs
+
+slice-aggregate-result-2 : tie.Need-slice-aggregate-result-2
+slice-aggregate-result-2 c = search needs
+
+returns : tie.Need-returns
+returns c = handed-type _ _ (c .before .before .before .before .before .before .judge .last .1 .1 .1 .1 .0) (c .before .before .before .before .before .before .judge .result) (c .before .before .before .before .before .before .judge .ensures) _ _ (c .before .before .judged .given .1)
+
+returns-2 : tie.Need-returns-2
+returns-2 c = handed-nothing _ _ (c .before .before .before .before .before .before .judge .last .1 .1 .1 .1 .0) (c .before .before .before .before .before .before .judge .result) (c .before .before .before .before .before .before .judge .ensures) _ _ (c .before .before .judged2 .given .1)
+
+pub check-spec : {M : Type 1} → statement M
+check-spec =
+    tie.close
+    (tie.spec
+    judge-requires
+    enum-known-judged
+    slice-aggregate-result
+    enum-known-judged-2
+    slice-aggregate-result-2
+    returns
+    returns-2)

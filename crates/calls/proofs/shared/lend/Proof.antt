@@ -1,0 +1,39 @@
+use mathlib.Core.Path.{sym, _∙_}
+use lib.ListN.{length}
+use Rattle.calls.specs.Shared.{lent-of}
+use Rattle.calls.proofs.SharedTests.{Lengths, lengths-fine, opened-as, opened-refused}
+use native.Mathlib.Omega.{arith}
+use borrow.Author.Needs.{needs}
+use Rattle.calls.proofs.shared.lend.Statement.{statement}
+use Rattle.calls.proofs.shared.lend.Tie as tie
+use Rattle.calls.proofs.shared.lend.Reads as reads
+use Rattle.calls.proofs.shared.lend.Lts as lts
+use Rattle.calls.proofs.shared.accept.Reads as accept-reads
+use Rattle.calls.proofs.shared.lengths.Reads as lengths-reads
+
+-- tests 1 and 2 passed
+fine : (c : tie.Else1) → Lengths (length (c .before .before .before .before .before .args .ws .now)) (c .before .before .before .before .before .args .register)
+fine c = lengths-fine (length (c .before .before .before .before .before .args .ws .now)) (c .before .before .before .before .before .args .register) (sym (c .if1 .left) ∙ c .before .lengths .ensures)
+
+lengths-requires : tie.Need-lengths-requires
+lengths-requires c κs = search needs
+
+returns : tie.Need-returns
+returns c = let s = c .before .before .before .before .before in opened-refused (lent-of (s .args .sig .now) (s .args .n) (length (s .args .ws .now))) (s .args .register) (s .args .table .now) (c .before .lengths .result) (c .before .lengths .ensures) (c .if1 .taken)
+
+accept-requires : tie.Need-accept-requires
+accept-requires c κs = let L = fine (c .before .before) in record { entries = c .before .before .before .before .before .before .before .pre; workspace = L .workspace-fits }
+
+same-length : tie.Need-same-length
+same-length c = search needs
+
+same-length-2 : tie.Need-same-length-2
+same-length-2 c = search needs
+
+returns-2 : tie.Need-returns-2
+returns-2 c = let s = c .before .before .before .before .before .before .before .before .before .before .before .before in opened-as (lent-of (s .args .sig .now) (s .args .n) (length (s .args .ws .now))) (s .args .register) _ (c .before .before .before .before .accept .result) (fine (c .before .before .before .before .before .before .before)) (c .before .before .before .before .accept .ensures)
+
+pub lend-spec : {M : Type 1} → statement M
+lend-spec =
+    tie.close
+    (tie.spec lengths-requires returns accept-requires same-length same-length-2 returns-2)

@@ -1,0 +1,3 @@
+-- What the calls answer, by the definitions of `register`.
+pub mod Shared
+pub mod Answers

@@ -1,0 +1,2 @@
+-- The benchmark's function meets its contract.
+pub mod Answers

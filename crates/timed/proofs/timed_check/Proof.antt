@@ -1,0 +1,86 @@
+use mathlib.Core.Path.{sym}
+use lib.ListN.{length}
+use lib.Seq.{length-take-le}
+use Rattle.typing.proofs.Accepted.{Constants-read, constants-read, count-within}
+use Rattle.timed.proofs.Answers.{short, bad, refused-number, typed-number}
+use native.Mathlib.Omega.{arith}
+use borrow.Author.Needs.{needs}
+use Rattle.timed.proofs.timed_check.Statement.{statement}
+use Rattle.timed.proofs.timed_check.Tie as tie
+use Rattle.timed.proofs.timed_check.Reads as reads
+use Rattle.timed.proofs.timed_check.Lts as lts
+use Rattle.typing.proofs.check.check_term.Reads as check-term-reads
+use Rattle.typing.proofs.signature.read_signature.Reads as read-signature-reads
+
+-- the constants that were read
+found : (c : tie.After-listed) → Constants-read (c .before .before .before .before .before .before .before .before .before .before .before .before .args .signature .now) (c .before .before .before .before .before .read-signature .last .1 .0) (c .listed .given .0 .0)
+found c = constants-read (c .before .before .before .before .before .before .before .before .before .before .before .before .args .signature .now) (c .before .before .before .before .before .read-signature .last .1 .0) (c .listed .given .0 .0) (c .before .before .before .before .before .read-signature .result) (c .before .before .before .before .before .read-signature .ensures) (c .listed .given .1)
+
+returns : tie.Need-returns
+returns c = short (length (c .before .before .before .before .args .workspace .now)) (c .before .before .before .before .args .signature .now) (c .before .before .before .before .args .term .now) (c .if1 .taken)
+
+slice-aggregate-read-signature : tie.Need-slice-aggregate-read-signature
+slice-aggregate-read-signature c = search needs
+
+read-signature-requires : tie.Need-read-signature-requires
+read-signature-requires c κs = search needs
+
+enum-told : tie.Need-enum-told
+enum-told c = search needs
+
+enum-known-listed : tie.Need-enum-known-listed
+enum-known-listed c = search needs
+
+array-share-prefix-table : tie.Need-array-share-prefix-table
+array-share-prefix-table c = count-within (c .before .before .before .before .before .before .before .before .before .before .before .before .before .args .signature .now) (c .before .before .before .before .before .before .read-signature .last .1 .0) (c .before .listed .given .0 .0) (found (c .before))
+
+slice-aggregate-check-term : tie.Need-slice-aggregate-check-term
+slice-aggregate-check-term c = sym (length-take-le (c .before .before .listed .given .0 .0) (c .before .before .before .before .before .before .before .read-signature .last .1 .0) (count-within (c .before .before .before .before .before .before .before .before .before .before .before .before .before .before .args .signature .now) (c .before .before .before .before .before .before .before .read-signature .last .1 .0) (c .before .before .listed .given .0 .0) (found (c .before .before))))
+
+check-term-requires : tie.Need-check-term-requires
+check-term-requires c κs = let C = found (c .before .before .before) in record { Σ = C .Σ; constants = C .constants-are; workspace = omega (arith, c .before .before .before .before .before .before .before .before .before .before .before .if1 .left, c .before .before .before .before .before .before .before .before .read-signature .kept .1 .1 .0); words = omega arith; nesting = omega arith }
+
+enum-known-typed : tie.Need-enum-known-typed
+enum-known-typed c = search needs
+
+enum-told-2 : tie.Need-enum-told-2
+enum-told-2 c = search needs
+
+same-length : tie.Need-same-length
+same-length c = search needs
+
+returns-2 : tie.Need-returns-2
+returns-2 c = bad (length (c .before .before .before .before .before .before .before .before .before .before .before .before .args .workspace .now)) (c .before .before .before .before .before .before .before .before .before .before .before .before .args .signature .now) (c .before .before .before .before .before .before .before .before .before .before .before .before .args .term .now) (c .before .before .before .before .before .before .before .before .if1 .left) (c .before .before .before .before .before .read-signature .last .1 .0) (c .before .before .before .before .before .read-signature .result) _ (c .before .before .before .before .before .read-signature .ensures) (c .enum-told .given .1)
+
+same-length-2 : tie.Need-same-length-2
+same-length-2 c = search needs
+
+returns-3 : tie.Need-returns-3
+returns-3 c = let C = found (c .before .before .before .before .before .before .before .before .before) in refused-number (length (c .before .before .before .before .before .before .before .before .before .before .before .before .before .before .before .before .before .before .before .before .before .args .workspace .now)) (c .before .before .before .before .before .before .before .before .before .before .before .before .before .before .before .before .before .before .before .before .before .args .signature .now) (c .before .before .before .before .before .before .before .before .before .before .before .before .before .before .before .before .before .before .before .before .before .args .term .now) (c .before .before .before .before .before .before .before .before .before .before .before .before .before .before .before .before .before .if1 .left) (c .before .before .before .before .before .before .before .before .before .before .before .before .before .before .read-signature .last .1 .0) (c .before .before .before .before .before .before .before .before .before .listed .given .0 .0) C _ _ (c .before .before .before .before .before .check-term .result) (c .before .before .before .before .before .check-term .ensures (C .Σ) (C .constants-are)) _ _ (c .before .typed .given .1)
+
+same-length-3 : tie.Need-same-length-3
+same-length-3 c = search needs
+
+returns-4 : tie.Need-returns-4
+returns-4 c = let C = found (c .before .before .before .before .before .before .before .before) in typed-number (length (c .before .before .before .before .before .before .before .before .before .before .before .before .before .before .before .before .before .before .before .before .args .workspace .now)) (c .before .before .before .before .before .before .before .before .before .before .before .before .before .before .before .before .before .before .before .before .args .signature .now) (c .before .before .before .before .before .before .before .before .before .before .before .before .before .before .before .before .before .before .before .before .args .term .now) (c .before .before .before .before .before .before .before .before .before .before .before .before .before .before .before .before .if1 .left) (c .before .before .before .before .before .before .before .before .before .before .before .before .before .read-signature .last .1 .0) (c .before .before .before .before .before .before .before .before .listed .given .0 .0) C _ _ (c .before .before .before .before .check-term .result) (c .before .before .before .before .check-term .ensures (C .Σ) (C .constants-are)) _ _ (c .enum-told2 .given .1)
+
+pub timed-check-spec : {M : Type 1} → statement M
+timed-check-spec =
+    tie.close
+    (tie.spec
+    returns
+    slice-aggregate-read-signature
+    read-signature-requires
+    enum-told
+    enum-known-listed
+    array-share-prefix-table
+    slice-aggregate-check-term
+    check-term-requires
+    enum-known-typed
+    enum-told-2
+    same-length
+    returns-2
+    same-length-2
+    returns-3
+    same-length-3
+    returns-4)

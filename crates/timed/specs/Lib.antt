@@ -1,0 +1,2 @@
+-- What the benchmark's function answers.
+pub mod Timed
