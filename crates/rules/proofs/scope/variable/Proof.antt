@@ -1,6 +1,5 @@
-use Rattle.rules.proofs.Variables.{picked-true, picked-false, picked-length, Entry, entry-of, variable-unbound, variable-long, looked-up, variable-found}
+use Rattle.rules.proofs.Variables.{amount-fits, amount-is, amount-near, picked-true, picked-false, picked-length, Entry, entry-of, variable-unbound, variable-long, looked-up, variable-found}
 use Rattle.rules.specs.Scope.{scope-words, Binders}
-use Rattle.words.proofs.Signed.{add-fits, raw-is}
 use Rattle.words.proofs.Places.{at-end, is-at}
 use Rattle.words.specs.Place.{Is}
 use Rattle.logic.specs.Term.{Term}
@@ -41,7 +40,7 @@ part c Γ b =
 
 -- an i32 that is handed on is read back from its bits
 amount : (s : tie.Start) → toZ w32 (ofZ w32 (toZ w32 (s .args .n) +ℤ pos 1)) ≡ pos (suc (s .args .n))
-amount s = raw-is (s .args .n) (pos 1) (s .pre .number) (omega arith) ∙ ap pos (add-one (s .args .n))
+amount s = amount-is (s .args .n) 1 (s .pre .number) (omega arith) ∙ ap pos (add-one (s .args .n))
 
 binder-requires : tie.Need-binder-requires
 binder-requires c κs = let s = c .before .before .before in record { proof = s .args .proof .now; Γ = s .pre .Γ; binders = s .pre .binders; below = s .pre .below; inside = omega (arith, s .pre .room) }
@@ -96,7 +95,7 @@ same-length-2 c = search needs
 returns-2 : tie.Need-returns-2
 returns-2 c =
     let s = c .before .before .before .before .before .before .before .before .before in
-    λ Γ b r. variable-long (s .args .at) (entry-for (c .before .before .before .before) Γ b) (c .if2 .taken)
+    λ Γ b r. variable-long (s .args .at) (entry-for (c .before .before .before .before) Γ b) (omega (arith, c .if2 .taken))
 
 sub-from : tie.Need-sub-from
 sub-from c = let e = entry (c .before .before .before .before .before) in omega (arith, e .within (c .if3 .taken))
@@ -119,7 +118,7 @@ cast-shift-into : tie.Need-cast-shift-into
 cast-shift-into c = search needs
 
 add-shift-into : tie.Need-add-shift-into
-add-shift-into c = let s = c .before .before .before .before .before .before .before .before .before .before .before .before .before in add-fits (s .args .n) (pos 1) (s .pre .number) (omega arith)
+add-shift-into c = let s = c .before .before .before .before .before .before .before .before .before .before .before .before .before in amount-fits (s .args .n) _ (s .pre .number) (omega arith)
 
 slice-aggregate-shift-into : tie.Need-slice-aggregate-shift-into
 slice-aggregate-shift-into c = search needs
@@ -129,7 +128,7 @@ shift-into-requires c κs =
     let s = c .before .before .before .before .before .before .before .before .before .before .before .before .before .before in
     let e = entry (c .before .before .before .before .before .before .before .before .before) in
     let n = s .pre .number in
-    (omega arith, record { term = e .type; here = is-at (part (c .before) (s .pre .Γ) (s .pre .binders)); fits = omega (arith, e .type-words, c .before .before .before .before .before .if2 .left); deep = omega (arith, e .type-words, c .before .before .before .before .before .if2 .left); near = rw (amount s) (omega arith) })
+    (omega arith, record { term = e .type; here = is-at (part (c .before) (s .pre .Γ) (s .pre .binders)); fits = omega (arith, e .type-words, c .before .before .before .before .before .if2 .left); deep = omega (arith, e .type-words, c .before .before .before .before .before .if2 .left); near = amount-near (s .args .n) _ n (omega arith) })
 
 slice-aggregate-copy : tie.Need-slice-aggregate-copy
 slice-aggregate-copy c = search needs

@@ -36,7 +36,7 @@ same-length-2 : tie.Need-same-length-2 Inv-loop μ-loop
 same-length-2 c = search needs
 
 returns : tie.Need-returns Inv-loop μ-loop
-returns c = let s = c .before .before .before .before .before .before in let v = c .before .before .loop in reading-full (s .args .sig .now) (v .table) (v .at) (v .count) (v .inv .0) (v .table) (c .before .loop-test .taken) (c .if1 .taken)
+returns c = let s = c .before .before .before .before .before .before in let v = c .before .before .loop in reading-full (s .args .sig .now) (v .table) (v .at) (v .count) (v .inv .0) (v .table) (c .before .loop-test .taken) (omega (arith, c .if1 .taken))
 
 slice-reshare-prefix-constant : tie.Need-slice-reshare-prefix-constant Inv-loop μ-loop
 slice-reshare-prefix-constant c = search needs
