@@ -25,7 +25,7 @@ pub fn apply(
     requires { ⌜ Appliable (now proof) (now ws) next n m end ⌝ }
     ensures { λ r. ⌜ ((d C e E : Term) → Applies (now (proof .entry)) (now (ws .entry)) next n m end d C e E → Formed (applied at d C e E) end (now (ws .entry)) (now (ws .exit)) r) ⌝ }
 {
-    // the argument's type is the domain exactly if its words stand there: a list of words begins with one term at most
+    // behind the word Pi the domain's words begin: they are the argument's type exactly if its words stand there, for no term's words begin another's
     let body = 1 + m;
     if n <= body {
         return Derivation::Refused {

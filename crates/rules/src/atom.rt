@@ -47,7 +47,7 @@ fn sort(tag: u32) -> u32
     if name {
         return TAG_PRIN * PAYLOADS;
     }
-    // S and N
+    // of S and of N
     TAG_TYPE * PAYLOADS
 }
 

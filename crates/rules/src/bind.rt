@@ -43,7 +43,7 @@ pub fn bind(ws: &mut [u32], used: usize, at: usize, m: usize, end: usize) -> Der
             place: at,
         },
         Occurrence::Absent(_) => {
-            // the principal was raised, so the whole type is lowered
+            // "shifts every free variable up or down by a signed amount": minus 1 after Bind, the principal's too, which was raised
             let words = shift_within(ws, 0, 0, -1);
             Derivation::Typed { words, end }
         }

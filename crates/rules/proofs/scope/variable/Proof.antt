@@ -1,5 +1,5 @@
 use Rattle.rules.proofs.Variables.{amount-fits, amount-is, amount-near, picked-true, picked-false, picked-length, Entry, entry-of, variable-unbound, variable-long, looked-up, variable-found}
-use Rattle.rules.specs.Scope.{scope-words, Binders}
+use Rattle.rules.specs.Scope.{scope-words, entry-head, Binders}
 use Rattle.words.proofs.Places.{at-end, is-at}
 use Rattle.words.specs.Place.{Is}
 use Rattle.logic.specs.Term.{Term}
@@ -29,7 +29,7 @@ abbrev entry : (c : tie.Else1) → Entry (c .before .before .before .before .bef
 entry c = entry-for c (c .before .before .before .before .before .pre .Γ) (c .before .before .before .before .before .pre .binders)
 
 -- where the type starts
-from-is : (c : tie.Joined3) → c .if3 .from ≡ pick (ltb 3 (getD (c .before .before .before .before .before .before .before .before .before .before .args .ws .now) (length (c .before .before .before .before .before .before .before .before .before .before .args .ws .now) - c .before .before .before .before .before .before .binder .result) 0)) (length (c .before .before .before .before .before .before .before .before .before .before .args .ws .now) - c .before .before .before .before .before .before .binder .result + (getD (c .before .before .before .before .before .before .before .before .before .before .args .ws .now) (length (c .before .before .before .before .before .before .before .before .before .before .args .ws .now) - c .before .before .before .before .before .before .binder .result) 0 - getD (c .before .before .before .before .before .before .before .before .before .before .args .ws .now) (length (c .before .before .before .before .before .before .before .before .before .before .args .ws .now) - c .before .before .before .before .before .before .binder .result + 2) 0)) (getD (c .before .before .before .before .before .before .before .before .before .before .args .ws .now) (length (c .before .before .before .before .before .before .before .before .before .before .args .ws .now) - c .before .before .before .before .before .before .binder .result + 1) 0)
+from-is : (c : tie.Joined3) → c .if3 .from ≡ pick (ltb entry-head (getD (c .before .before .before .before .before .before .before .before .before .before .args .ws .now) (length (c .before .before .before .before .before .before .before .before .before .before .args .ws .now) - c .before .before .before .before .before .before .binder .result) 0)) (length (c .before .before .before .before .before .before .before .before .before .before .args .ws .now) - c .before .before .before .before .before .before .binder .result + (getD (c .before .before .before .before .before .before .before .before .before .before .args .ws .now) (length (c .before .before .before .before .before .before .before .before .before .before .args .ws .now) - c .before .before .before .before .before .before .binder .result) 0 - getD (c .before .before .before .before .before .before .before .before .before .before .args .ws .now) (length (c .before .before .before .before .before .before .before .before .before .before .args .ws .now) - c .before .before .before .before .before .before .binder .result + 2) 0)) (getD (c .before .before .before .before .before .before .before .before .before .before .args .ws .now) (length (c .before .before .before .before .before .before .before .before .before .before .args .ws .now) - c .before .before .before .before .before .before .binder .result + 1) 0)
 from-is c = ⊎-elim (λ w. picked-true _ _ _ (w .0 .taken) (w .1)) (λ w. picked-false _ _ _ (w .0 .left) (w .1)) (c .if3 .came)
 
 -- the part that was looked up is the type's words
@@ -108,7 +108,7 @@ add-lookup c =
     let s = c .before .before .before .before .before .before .before .before .before .before .before .before in
     let e = entry (c .before .before .before .before .before .before .before) in
     let f = from-is (c .before .before) in
-    let l = picked-length (ltb 3 (getD (s .args .ws .now) (length (s .args .ws .now) - c .before .before .before .before .before .before .before .before .binder .result) 0)) (s .args .ws .now) (s .args .proof .now) in
+    let l = picked-length (ltb entry-head (getD (s .args .ws .now) (length (s .args .ws .now) - c .before .before .before .before .before .before .before .before .binder .result) 0)) (s .args .ws .now) (s .args .proof .now) in
     omega (arith, s .good, at-end (e .here), e .type-words)
 
 lookup-requires : tie.Need-lookup-requires

@@ -10,10 +10,6 @@ use native.Mathlib.Omega.{arith}
 use borrow.Author.Needs.{needs}
 use Rattle.typing.proofs.check.check_statement.Statement.{statement}
 use Rattle.typing.proofs.check.check_statement.Tie as tie
-use Rattle.typing.proofs.check.check_statement.Reads as reads
-use Rattle.typing.proofs.check.check_statement.Lts as lts
-use Rattle.rules.proofs.front.front_is.Reads as front-is-reads
-use Rattle.typing.proofs.check.check_term.Reads as check-term-reads
 
 -- the proposition and its type
 typed : (c : tie.After-front-is) (Σ : List Term) (a : ℕ) → Constants-of (c .before .before .before .before .before .before .before .before .before .before .before .before .before .args .sig .now) (c .before .before .before .before .before .before .before .before .before .before .before .before .before .args .table .now) Σ → Typed-as Σ a (c .before .before .before .before .before .before .before .before .before .before .before .before .before .args .proposition .now) (c .before .before .before .before .before .before .before .check-term .last .1 .1 .1 .1 .1 .0) (c .before .before .before .typed2 .given .0 .0)

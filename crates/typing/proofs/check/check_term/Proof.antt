@@ -12,11 +12,6 @@ use native.Mathlib.Omega.{arith}
 use borrow.Author.Needs.{needs}
 use Rattle.typing.proofs.check.check_term.Statement.{statement}
 use Rattle.typing.proofs.check.check_term.Tie as tie
-use Rattle.typing.proofs.check.check_term.Reads as reads
-use Rattle.typing.proofs.check.check_term.Lts as lts
-use Rattle.typing.proofs.derive.derive.Reads as derive-reads
-use Rattle.words.proofs.nesting.nested.Reads as nested-reads
-use Rattle.words.proofs.read.read_whole.Reads as read-whole-reads
 
 -- the term that was read
 read : (c : tie.After-enum-told) → Term-in (c .before .before .before .before .before .before .before .before .before .args .term .now)

@@ -1,5 +1,5 @@
-use Prim.Native.Nat.{ℕ, _+_, _-_, _≤_}
-use mathlib.Core.Bool.{true, false}
+use Prim.Native.Nat.{_+_, _-_, _≤_}
+use mathlib.Core.Bool.{true}
 use borrow.Author.Tests.{not-true, not-false}
 use mathlib.Core.Path.{_≡_, refl, sym, _∙_}
 use lib.ListN.{length, drop, getD, length-set}
@@ -9,9 +9,6 @@ use borrow.Author.Needs.{needs}
 use native.Mathlib.Omega.{arith}
 use Rattle.typing.proofs.signature.read_signature.Statement.{statement}
 use Rattle.typing.proofs.signature.read_signature.Tie as tie
-use Rattle.typing.proofs.signature.read_signature.Reads as reads
-use Rattle.typing.proofs.signature.read_signature.Lts as lts
-use Rattle.typing.proofs.signature.constant.Reads as constant-reads
 
 abbrev Inv-loop : tie.InvT-loop
 Inv-loop sig table₀ ws₀ at₀ count₀ table ws at count = Reading sig table at count × (length table ≡ length table₀) × (length ws ≡ length ws₀)
