@@ -71,7 +71,7 @@ refused-by (refused m′ p′) end m p q = cc
 pub refused-is : (o : Result Term) (end used : ℕ) (old new : List ℕ) (r : Derivation) (m p : ℕ) → Derived o end used old new r → r ≡ Refused m p → o ≡ refused m p
 refused-is o end used old new r m p d q = refused-by o end m p (sym q ∙ d .answer)
 
--- what only the front was written for
+-- a rule that wrote only the front left the words kept at the end
 pub from-front : (o : Result Term) (end used : ℕ) (old new : List ℕ) (r : Derivation) → length new ≡ length old → used + front-words ≤ length old → Formed o end old new r → Derived o end used old new r
 from-front o end used old new r e l f = record { answer = f .answer; front = f .front; kept = tail-kept used front-words old new e (f .rest) (omega arith) }
 
@@ -161,7 +161,7 @@ pub inside : (o : Op) (at : ℕ) (a A : Term) (n used : ℕ) (mid mid2 : List �
 unfolding Entering
 inside o at a A n used mid mid2 r keep kept e q = inside-by (ready o at a A) o at a A n used mid mid2 keep kept refl (subst (Entering-by (ready o at a A) o at a A n used mid mid2) q e)
 
--- a refusal of the test is 11 at the node
+-- a test that fails is refused at the node
 record Failed (mid mid2 : List ℕ) (o : Op) (at : ℕ) (a A : Term) : Type 0 where
   fails : ready o at a A ≡ refused condition-fails at
   unchanged : mid2 ≡ mid

@@ -1,4 +1,4 @@
--- The check of a node is the one rule of specs/Rule.
+-- The check of a node is the one rule of specs/Rule of crate `rules`.
 use Prim.Native.Nat.{ℕ, _+_}
 use mathlib.Core.Path.{_≡_, refl, ap, fun-ext}
 use mathlib.Core.List.{List}
