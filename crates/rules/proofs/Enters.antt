@@ -1,5 +1,5 @@
 -- What the code between the children of a node answers and writes.
-use Prim.Native.Nat.{ℕ, suc, _+_, _-_, _/_, _≤_, _<_}
+use Prim.Native.Nat.{ℕ, suc, _+_, _-_, _≤_, _<_}
 use native.Mathlib.Omega.{arith}
 use mathlib.Core.Path.{_≡_, refl, sym, ap, ap₂, subst, _∙_}
 use mathlib.Core.Logic.{inl, inr}
@@ -13,7 +13,7 @@ use borrow.Author.Tests.{eqb-true, eq-eqb}
 use Rattle.logic.specs.Limits.{most-type-words}
 use Rattle.logic.specs.Refusals.{condition-fails}
 use Rattle.logic.specs.Result.{Result, ok, refused, _>>_, known}
-use Rattle.logic.specs.Tags.{tag-app, tag-bind}
+use Rattle.logic.specs.Tags.{tag-prop, tag-app, tag-bind, tag-kindP, tag-kindT}
 use Rattle.logic.specs.Term.{Op, saysO, piO, lamO, appO, retO, bindO, Op-discrete, Term, atom, var, sign, node, P, T′, N, Says, word, tag-of, opWord, encode, size}
 use Rattle.logic.specs.Move.{raise}
 use Rattle.logic.specs.Reading.{branch, leaf, shape, Plain, PlainType}
@@ -37,7 +37,7 @@ use Rattle.rules.proofs.Kepts.{drop-written, written-before, written-in
 
 -- ---- a domain
 
-prop-word : (a : Term) → Plain a → first a ≡ word 1 0 → a ≡ P
+prop-word : (a : Term) → Plain a → first a ≡ word tag-prop 0 → a ≡ P
 prop-word a p e = go a (sym (shape-first a p) ∙ ap shape e)
   where
     go : (a : Term) → head a ≡ leaf P → a ≡ P
@@ -52,12 +52,12 @@ domain-type a A e = ap (λ (b : Bool). b || same A P || same a P) e
 pub domain-prop : (a A : Term) → false ≡ same A T′ → true ≡ same A P → true ≡ domain a A
 domain-prop a A e f = ap₂ (λ (b c : Bool). b || c || same a P) e f
 
-pub domain-word : (a A : Term) (w : ℕ) → Plain a → w ≡ first a → false ≡ same A T′ → false ≡ same A P → eqb w (word 1 0) ≡ domain a A
-domain-word a A w p q e f = go (eqb w (word 1 0)) refl ∙ ap₂ (λ (b c : Bool). b || c || same a P) e f
+pub domain-word : (a A : Term) (w : ℕ) → Plain a → w ≡ first a → false ≡ same A T′ → false ≡ same A P → eqb w (word tag-prop 0) ≡ domain a A
+domain-word a A w p q e f = go (eqb w (word tag-prop 0)) refl ∙ ap₂ (λ (b c : Bool). b || c || same a P) e f
   where
-    go : (b : Bool) → eqb w (word 1 0) ≡ b → b ≡ same a P
-    go true t = sym (same-yes (prop-word a p (sym q ∙ eqb-true w (word 1 0) t)))
-    go false t = sym (same-no λ s. clash (cc (t, eq-eqb w (word 1 0) (q ∙ ap first s))))
+    go : (b : Bool) → eqb w (word tag-prop 0) ≡ b → b ≡ same a P
+    go true t = sym (same-yes (prop-word a p (sym q ∙ eqb-true w (word tag-prop 0) t)))
+    go false t = sym (same-no λ s. clash (cc (t, eq-eqb w (word tag-prop 0) (q ∙ ap first s))))
 
 -- ---- a type that is a node
 
@@ -69,7 +69,7 @@ shape-op appO = refl
 shape-op retO = refl
 shape-op bindO = refl
 
-op-below : (o : Op) → opWord o < word 16 0
+op-below : (o : Op) → opWord o < word tag-kindP 0
 op-below saysO = omega arith
 op-below piO = omega arith
 op-below lamO = omega arith
@@ -90,8 +90,8 @@ node-of o A (inl p) e = go A (sym (shape-first A p) ∙ ap shape e ∙ shape-op 
     go (var n) q = absurd (clash (cc))
     go (sign n t) q = absurd (clash (cc))
     go (node h x y) q = record { left = x; right = y; is = cc }
-node-of o A (inr (inl k)) e = let q : word 16 0 ≡ opWord o = sym (ap first k) ∙ e in let b = op-below o in absurd (omega arith)
-node-of o A (inr (inr k)) e = let q : word 17 0 ≡ opWord o = sym (ap first k) ∙ e in let b = op-below o in absurd (omega arith)
+node-of o A (inr (inl k)) e = let q : word tag-kindP 0 ≡ opWord o = sym (ap first k) ∙ e in let b = op-below o in absurd (omega arith)
+node-of o A (inr (inr k)) e = let q : word tag-kindT 0 ≡ opWord o = sym (ap first k) ∙ e in let b = op-below o in absurd (omega arith)
 
 parts-some : (o : Op) (x y : Term) → parts o (node o x y) ≡ some (record { left = x; right = y })
 parts-some o x y = go (Op-discrete o o)

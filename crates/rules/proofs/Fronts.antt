@@ -21,6 +21,7 @@ use Rattle.words.specs.Place.{written}
 use Rattle.words.specs.Typed.{TypeAt}
 use Rattle.words.proofs.Lists.{length-head}
 use Rattle.words.proofs.Places.{size-pos, words-head}
+use Rattle.words.proofs.Sames.{same-test}
 use Rattle.words.proofs.Types.{in-range}
 use Rattle.rules.specs.Form.{front-words, Formed}
 use Rattle.rules.specs.declared.derivation.Derivation.the-variants.{Typed, Refused}
@@ -33,12 +34,6 @@ one-word (atom a) e = refl
 one-word (var n) e = refl
 one-word (sign n q) e = let h = size-pos q in absurd (omega arith)
 one-word (node o a b) e = let h = size-pos a in absurd (omega arith)
-
--- two tests that pass together are the same
-same-test : (b c : Bool) → (b ≡ true → c ≡ true) → (c ≡ true → b ≡ true) → b ≡ c
-same-test true c f g = sym (f refl)
-same-test false true f g = g refl
-same-test false false f g = refl
 
 -- a test that was denied does not pass
 pub denied : (b : Bool) → not b ≡ true → b ≡ true → ⊥

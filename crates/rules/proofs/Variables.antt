@@ -1,16 +1,18 @@
 -- A variable's type, from its binder's entry.
-use Prim.Native.Nat.{ℕ, zero, suc, _+_, _-_, _≤_, _<_}
+use Prim.Native.Nat.{ℕ, zero, suc, _+_, _-_, _^_, _≤_, _<_}
 use native.Mathlib.Omega.{arith}
 use mathlib.Core.Path.{_≡_, refl, sym, ap, subst, _∙_}
-use mathlib.Core.Logic.{inl}
 use mathlib.Core.Bool.{Bool, true, false}
 use mathlib.Core.List.{List, [], _∷_, _++_, append-assoc}
 use mathlib.Core.Option.{Option, some, none}
 use lib.ListN.{length, take, drop, getD, getElem?, take-append-drop}
 use lib.Seq.{drop-drop}
 use lib.Dec.{ltb}
-use lib.IntN.{ℤ, pos}
-use Rattle.logic.specs.Limits.{most-type-words}
+use lib.IntN.{ℤ, pos, _+ℤ_, natAbs}
+use mir.Syntax.{w32}
+use mir.Val.{SFits, toZ, ofZ}
+use mir.Facts.{toZ-ofZ, toZ-pos}
+use Rattle.logic.specs.Limits.{payloads, most-type-words}
 use Rattle.logic.specs.Refusals.{unbound-variable, type-too-long}
 use Rattle.logic.specs.Result.{_>>=_, known, pick}
 use Rattle.logic.specs.Term.{Term, encode, size}
@@ -139,3 +141,21 @@ module _ {proof ws : List ℕ} {kept n : ℕ} {Γ : List Term} (at : ℕ) (e : E
       (h A (e .known) (omega arith))
       refl
       (c ∙ ap (written ws 0) (written-front zeros raised (encode (shift 0 z A)) w (s .words) (s .count ∙ sym (length-shift 0 z A)) ∙ ap (λ (v : ℤ). encode (shift 0 v A)) y))
+
+-- ---- the machine's sum of a variable's number and a small amount
+
+module _ (n k : ℕ) (h : n < payloads) (l : k ≤ 1) where
+  sum-fits : SFits w32 (pos (n + k))
+  sum-fits = record { sfits = omega arith }
+
+  number : toZ w32 n ≡ pos n
+  number = let a : n < 2 ^ 31 = omega arith in toZ-pos w32 a
+
+  pub amount-fits : SFits w32 (toZ w32 n +ℤ pos k)
+  amount-fits = rw number sum-fits
+
+  pub amount-is : toZ w32 (ofZ w32 (toZ w32 n +ℤ pos k)) ≡ pos (n + k)
+  amount-is = rw number (toZ-ofZ sum-fits)
+
+  pub amount-near : natAbs (toZ w32 (ofZ w32 (toZ w32 n +ℤ pos k))) ≤ payloads
+  amount-near = rw amount-is (omega arith)

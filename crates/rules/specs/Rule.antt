@@ -1,11 +1,11 @@
--- The rules of nodes with two children as one rule: the first child, a test on its type, the second child under the rule's binder if any, and the result. proofs/Uniform shows that `infer` is this.
-use Prim.Native.Nat.{ℕ, suc, _+_}
+-- The rules of nodes with two children as one rule: the first child, a test on its type, the second child under the rule's binder if any, and the result. proofs/Uniform of crate `typing` shows that `infer` is this.
+use Prim.Native.Nat.{ℕ, suc}
 use mathlib.Core.List.{List, _∷_}
 use lib.Dec.{eqb}
 use lib.ListN.{getElem?}
 use Rattle.logic.specs.Refusals.{unbound-variable, condition-fails}
-use Rattle.logic.specs.Result.{Result, ok, refused, _>>=_, _>>_, known}
-use Rattle.logic.specs.Term.{Atom, Op, saysO, piO, lamO, appO, retO, bindO, Term, atom, var, sign, node, P, N, Name, Says, Pi}
+use Rattle.logic.specs.Result.{Result, ok, _>>=_, _>>_, known}
+use Rattle.logic.specs.Term.{Atom, Op, saysO, piO, lamO, appO, retO, bindO, Term, atom, var, sign, node, P, N, Name, Says}
 use Rattle.logic.specs.Move.{raise, lower, fill, occurs}
 use Rattle.logic.specs.Infer.{same, condition, measured, domain, body, proposition, parts, infer-atom}
 

@@ -18,7 +18,7 @@ tail k ws = drop (length ws - k) ws
 abbrev pub scope-words : (floor used : ℕ) → List ℕ → List ℕ
 scope-words floor used ws = take (used - floor) (tail used ws)
 
--- an entry has three words before its own: how many words it has, where the type stands in the proof, and the type's words
+-- an entry begins with three words: how many words it has, where the type stands in the proof, and how many words the type has
 abbrev pub entry-head : ℕ
 entry-head = 3
 

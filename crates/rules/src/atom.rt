@@ -47,7 +47,7 @@ fn sort(tag: u32) -> u32
     if name {
         return TAG_PRIN * PAYLOADS;
     }
-    // S and N
+    // S and N have the type T
     TAG_TYPE * PAYLOADS
 }
 

@@ -48,7 +48,7 @@ fn domain(word: u32, ws: &[u32], n: usize) -> bool
     word == TAG_PROP * PAYLOADS
 }
 
-// Writes the words of an entry before its own.
+// Writes the first words of an entry.
 fn put_head(ws: &mut [u32], head: usize, total: usize, start: usize, size: usize)
     requires { ⌜ (head + entry-head ≤ length (now ws)) × (total ≤ most-words) × (start ≤ most-words) × (size ≤ most-words) ⌝ }
     ensures { λ _. ⌜ now (ws .exit) ≡ written (now (ws .entry)) head (total ∷ start ∷ size ∷ []) ⌝ }
@@ -83,7 +83,7 @@ fn keep_says(ws: &mut [u32], used: usize, n: usize) -> usize
     kept
 }
 
-// The first child of the node at `at` ends at `next` in the proof; its type is the first n words of the workspace.
+// Tests the type of a node's first child, and keeps what the second child and the result need. The first child of the node at `at` ends at `next` in the proof; its type is the first n words of the workspace.
 pub fn enter(
     proof: &[u32],
     ws: &mut [u32],

@@ -19,7 +19,8 @@ ghost use Rattle.rules.specs.Rule.{formed as formedBy};
 ghost use Rattle.rules.specs.Form.{Formed};
 ghost use Rattle.rules.specs.Results.{Forms, Formable};
 
-// The node stands at `at` in the proof, up to `end`, its second child from `next` on. The second child's type has m words, at the front of the workspace; of an App, they stand behind the n words of its function's type.
+// The type of a node, at the front of the workspace, or the refusal. The node stands at `at` in the proof, up to `end`, its second child from `next` on. The second child's type has m words, at the front of the
+// workspace; of an App, they stand behind the n words of its function's type.
 pub fn formed(
     proof: &[u32],
     ws: &mut [u32],

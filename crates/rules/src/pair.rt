@@ -12,7 +12,7 @@ ghost use Rattle.rules.specs.Rule.{paired};
 ghost use Rattle.rules.specs.Form.{Formed};
 ghost use Rattle.rules.specs.Results.{Pairs, Pairable};
 
-// The node has the head word given. The first child stands in the proof behind `at`, up to `next`; the second's type is the first m words of the workspace.
+// The type that begins with the word `head`, at the front of the workspace, or the refusal. The first child stands in the proof behind `at`, up to `next`; the second's type is the first m words of the workspace.
 pub fn pair(
     proof: &[u32],
     ws: &mut [u32],

@@ -14,7 +14,7 @@ ghost use Rattle.rules.specs.Scope.{scope-words, Binders};
 ghost use Rattle.rules.specs.Form.{Formed};
 ghost use Rattle.rules.specs.Variable.{Walkable, Found, InScope, Raises};
 
-// The words of an entry before its own: how many it has, where the type stands in the proof, and the type's words.
+// The first words of an entry: how many words the entry has, where the type stands in the proof, and how many words the type has. Where the entry has more, the type stands at its end.
 pub const ENTRY_HEAD: usize = 3;
 
 // How many words are kept from the entry of variable n on, or `floor` where there is no such binder.

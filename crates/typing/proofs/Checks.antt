@@ -4,7 +4,7 @@ use native.Mathlib.Omega.{arith}
 use mathlib.Core.Path.{_≡_, refl, sym, ap, subst, _∙_}
 use mathlib.Core.Bool.{Bool, true, false, _&&_}
 use mathlib.Core.List.{List, []}
-use mathlib.Core.Option.{Option, some, none}
+use mathlib.Core.Option.{Option, none}
 use lib.Dec.{leb}
 use lib.ListN.{length}
 use borrow.Author.Tests.{le-leb, lt-leb}
@@ -14,10 +14,9 @@ use Rattle.logic.specs.Result.{Result, ok, refused, _>>=_, _>>_, require, nowhe
 use Rattle.logic.specs.Term.{Term, size}
 use Rattle.logic.specs.Scope.{no-binder}
 use Rattle.logic.specs.Infer.{infer}
-use Rattle.logic.specs.Reading.{read-whole, too-deep, depth}
-use Rattle.logic.specs.Check.{term-of}
+use Rattle.logic.specs.Reading.{read-whole, too-deep}
 use Rattle.logic.proofs.Basics.{clash}
-use Rattle.logic.proofs.Results.{bind-is, pass, true-both}
+use Rattle.logic.proofs.Results.{pass, true-both}
 use Rattle.logic.proofs.Searches.{too-deep-right}
 use Rattle.words.specs.Place.{Is}
 use Rattle.words.specs.Parsing.{whole}
@@ -29,12 +28,12 @@ use Rattle.words.specs.declared.nesting.Nesting.the-variants.{Within, Past}
 use Rattle.words.proofs.Places.{is-at, size-is}
 use Rattle.words.proofs.Parses.{whole-term, whole-malformed}
 use Rattle.words.proofs.Nestings.{past-is, within-is}
-use Rattle.rules.specs.Scope.{Binders, no-binder as no-entries}
+use Rattle.rules.specs.Scope.{no-binder as no-entries}
 use Rattle.rules.specs.Form.{answer-of}
 use Rattle.typing.specs.Derive.{Derived, Ready}
 use Rattle.typing.specs.Check.{Constants-of, typed-term, Judged}
 use Rattle.rules.specs.declared.derivation.Derivation.{Derivation}
-use Rattle.rules.specs.declared.derivation.Derivation.the-variants.{Typed, Refused}
+use Rattle.rules.specs.declared.derivation.Derivation.the-variants.{Refused}
 
 judged-refused : (o : Result Term) (end : ℕ) (new : List ℕ) (m p : ℕ) → o ≡ refused m p → Judged o end new (Refused m p)
 judged-refused o end new m p e = subst (λ (x : Result Term). Judged x end new (Refused m p)) (sym e) (record { answer = refl; front = tt })

@@ -4,25 +4,25 @@ use native.Mathlib.Omega.{arith}
 use mathlib.Core.Path.{_≡_, refl, sym, ap, ap₂, subst, subst₂, _∙_}
 use mathlib.Core.Logic.{inl, inr}
 use mathlib.Core.Bool.{Bool, true, false}
-use mathlib.Core.List.{List, [], _∷_, _++_, append-assoc, append-nil}
+use mathlib.Core.List.{List, [], _∷_, _++_, append-assoc}
 use mathlib.Core.Option.{Option, some, none}
-use lib.ListN.{length, take, drop, getD, getElem?, length-append, length-drop}
+use lib.ListN.{length, take, drop, getD, getElem?, length-append}
 use lib.Seq.{take-at, drop-at, drop-drop, take-append-add, length-take-le}
 use lib.IntN.{pos}
-use Rattle.logic.specs.Limits.{most-words, most-nesting, most-type-words}
+use Rattle.logic.specs.Limits.{most-words, most-type-words}
 use Rattle.logic.specs.Refusals.{unbound-variable, condition-fails}
 use Rattle.logic.specs.Result.{Result, ok, refused, _>>=_, _>>_, require, known}
 use Rattle.logic.specs.Kind.{kind-atom, kind-variable, kind-sign}
-use Rattle.logic.specs.Term.{Atom, Op, saysO, piO, lamO, appO, retO, bindO, Term, atom, var, sign, node, N, P, Says, Pi, payload-of, atomWord, opWord, encode, size, Op-discrete}
+use Rattle.logic.specs.Term.{Atom, Op, saysO, piO, lamO, appO, retO, bindO, Term, atom, var, sign, node, N, P, Says, Pi, payload-of, atomWord, opWord, encode, size}
 use Rattle.logic.specs.Move.{raise, fill}
 use Rattle.logic.specs.Typing.{Has, of-prop}
-use Rattle.logic.specs.Scope.{Signature, Context, no-binder, binder}
+use Rattle.logic.specs.Scope.{Context, no-binder, binder}
 use Rattle.logic.specs.Infer.{infer, measured, same, domain, Parts, parts}
 use Rattle.logic.specs.Reading.{PlainAtom, Plain, PlainType, depth}
-use Rattle.logic.proofs.Basics.{clash, no-entry, some-inj}
+use Rattle.logic.proofs.Basics.{clash}
 use Rattle.logic.proofs.Results.{not-ok, pass, require-ok}
 use Rattle.logic.proofs.Words.{encode-size, plain-in-range}
-use Rattle.logic.proofs.Range.{Named, AllNamed, in-range-named, named-shift, plain-typed, inferred}
+use Rattle.logic.proofs.Range.{AllNamed, in-range-named, named-shift, plain-typed, inferred}
 use Rattle.logic.proofs.Substitution.{weaken-one}
 use Rattle.logic.proofs.Regularity.{said, stratify}
 use Rattle.logic.proofs.Conditions.{measured-small, parts-some, domain-ok}
@@ -45,7 +45,7 @@ use Rattle.rules.specs.declared.derivation.Derivation.{Derivation}
 use Rattle.rules.specs.declared.derivation.Derivation.the-variants.{Typed, Refused}
 use Rattle.rules.specs.declared.enter.Entered.{Entered}
 use Rattle.rules.specs.declared.enter.Entered.the-variants.{Fits, Fails}
-use Rattle.typing.proofs.Tails.{tail-length, tail-kept, tail-less, rest-of, whole-of, rest-tail, whole-tail, whole-length, whole-is, rest-length}
+use Rattle.typing.proofs.Tails.{tail-kept, rest-of, whole-of, rest-tail, whole-tail, whole-length, whole-is}
 use Rattle.typing.proofs.Uniform.{rule, uniform}
 
 -- ---- what an answer tells
@@ -71,7 +71,7 @@ refused-by (refused m′ p′) end m p q = cc
 pub refused-is : (o : Result Term) (end used : ℕ) (old new : List ℕ) (r : Derivation) (m p : ℕ) → Derived o end used old new r → r ≡ Refused m p → o ≡ refused m p
 refused-is o end used old new r m p d q = refused-by o end m p (sym q ∙ d .answer)
 
--- what only the front was written for
+-- a rule that wrote only the front left the words kept at the end
 pub from-front : (o : Result Term) (end used : ℕ) (old new : List ℕ) (r : Derivation) → length new ≡ length old → used + front-words ≤ length old → Formed o end old new r → Derived o end used old new r
 from-front o end used old new r e l f = record { answer = f .answer; front = f .front; kept = tail-kept used front-words old new e (f .rest) (omega arith) }
 
@@ -161,7 +161,7 @@ pub inside : (o : Op) (at : ℕ) (a A : Term) (n used : ℕ) (mid mid2 : List �
 unfolding Entering
 inside o at a A n used mid mid2 r keep kept e q = inside-by (ready o at a A) o at a A n used mid mid2 keep kept refl (subst (Entering-by (ready o at a A) o at a A n used mid mid2) q e)
 
--- a refusal of the test is 11 at the node
+-- a test that fails is refused at the node
 record Failed (mid mid2 : List ℕ) (o : Op) (at : ℕ) (a A : Term) : Type 0 where
   fails : ready o at a A ≡ refused condition-fails at
   unchanged : mid2 ≡ mid

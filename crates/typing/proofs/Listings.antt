@@ -19,7 +19,7 @@ use Rattle.logic.specs.Typing.{Has}
 use Rattle.logic.specs.Scope.{Signature}
 use Rattle.logic.specs.Reading.{Plain}
 use Rattle.logic.specs.Infer.{infer, same, condition}
-use Rattle.logic.specs.Check.{term-of, check-term, Checked, Passes}
+use Rattle.logic.specs.Check.{term-of, Checked}
 use Rattle.logic.proofs.Basics.{clash, no-entry}
 use Rattle.logic.proofs.Words.{encode-size}
 use Rattle.logic.proofs.Results.{pass, both-true, true-both}
@@ -33,7 +33,6 @@ use Rattle.typing.specs.Check.{Constants-of, typed-term, Judged, passed,
 use Rattle.typing.proofs.Checks.{and-false, require-false}
 use Rattle.rules.specs.declared.derivation.Derivation.{Derivation}
 use Rattle.rules.specs.declared.derivation.Derivation.the-variants.{Typed, Refused}
-use Rattle.typing.specs.declared.signature.Listed.{Listed}
 use Rattle.typing.specs.declared.signature.Listed.the-variants.{Accepted, Bad}
 use Rattle.logic.proofs.SignatureList.{constant-right}
 
@@ -86,7 +85,7 @@ module _ (Σ : List Term) (sig : List ℕ) (at : ℕ) (l : at < length sig) wher
         go (ok t) e = typed t (infer Σ [] 0 t) e
         go (refused m′ p′) e = refl
 
-    test-is : (b : Bool) (t : Term) → passed (require b 11 0 >> ok t) ≡ b
+    test-is : (b : Bool) (t : Term) → passed (condition 0 b >> ok t) ≡ b
     test-is true t = refl
     test-is false t = refl
 
@@ -195,7 +194,7 @@ pub record Reading (sig table : List ℕ) (at count : ℕ) : Type 0 where
   pub enough : length sig < at + k
   pub counted : count ≡ length Σ
   pub within : at ≤ length sig
-  pub low : at ≤ count * 257
+  pub low : at ≤ count * (1 + most-constant-words)
 
 pub reading-start : (sig table : List ℕ) → Reading sig table 0 0
 reading-start sig table = record {

@@ -1,14 +1,12 @@
--- The check of a node is the one rule of specs/Rule.
+-- The check of a node is the one rule of specs/Rule of crate `rules`.
 use Prim.Native.Nat.{ℕ, _+_}
-use mathlib.Core.Path.{_≡_, refl, ap, _∙_, fun-ext}
-use mathlib.Core.List.{List, [], _∷_}
+use mathlib.Core.Path.{_≡_, refl, ap, fun-ext}
+use mathlib.Core.List.{List}
 use mathlib.Core.Option.{Option, some, none}
 use Rattle.logic.specs.Refusals.{condition-fails}
-use Rattle.logic.specs.Result.{Result, ok, refused, _>>=_, _>>_, known, require}
+use Rattle.logic.specs.Result.{Result, ok, _>>=_, _>>_, known}
 use Rattle.logic.specs.Term.{Op, saysO, piO, lamO, appO, retO, bindO, Term, atom, var, sign, node, size, Op-discrete}
-use Rattle.logic.specs.Infer.{infer, Parts, parts, same, domain}
-use Rattle.logic.proofs.Basics.{clash}
-use Rattle.logic.proofs.Results.{bind-is, then-is}
+use Rattle.logic.specs.Infer.{infer, Parts, parts}
 use Rattle.rules.specs.Rule.{first, second, ready, within, formed}
 
 -- the rule of a node whose first child a has the type A

@@ -25,7 +25,7 @@ pub record Constants-of (sig table : List ℕ) (Σ : List Term) : Type 0 where
   pub declared : Declared sig table Σ
   pub signature : Signature Σ
 
--- some constants are, and the workspace is not short
+-- there are such constants, the workspace is not short, and the limits are at most those of a term
 pub record Checkable (sig table ws : List ℕ) (most deep : ℕ) : Type 0 where
   pub Σ : List Term
   pub constants : Constants-of sig table Σ
@@ -67,14 +67,14 @@ unfoldable pub constant-at : List Term → List ℕ → Bool
 constant-at Σ [] = false
 constant-at Σ (n ∷ ws) = leb 1 n && leb n most-constant-words && leb n (length ws) && passed (constant Σ (take n ws))
 
--- a word stands at a place of the list
+-- there are constants, the workspace is not short, and a word stands at the place `at` of the list
 pub record Listable (sig table ws : List ℕ) (at : ℕ) : Type 0 where
   pub Σ : List Term
   pub constants : Constants-of sig table Σ
   pub workspace : least-workspace ≤ length ws
   pub inside : at < length sig
 
--- some constants' types stand where the table says
+-- there are constants whose types stand where the table says
 pub record Declares (sig table : List ℕ) : Type 0 where
   pub Σ : List Term
   pub declared : Declared sig table Σ

@@ -26,7 +26,7 @@ ghost use Rattle.logic.specs.Term.{Term};
 ghost use Rattle.logic.specs.Check.{check-statement};
 ghost use Rattle.typing.specs.Check.{Constants-of, Checkable, typed-term, Judged, verdict-of};
 
-// The type of a term of at most `most` words, nested at most `deep`, at the front of the workspace.
+// Tests 6 to 12 of a term of at most `most` words, nested at most `deep`. Its type comes to the front of the workspace.
 pub fn check_term(
     sig: &[u32],
     table: &[u32],

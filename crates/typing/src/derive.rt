@@ -43,7 +43,7 @@ pub fn derive(
         return variable(proof, ws, floor, used, payload_of(word), at);
     }
     if k == SIGN {
-        // no variables are in scope
+        // "with no variables in scope"
         let inner = derive(sig, table, proof, ws, used, used, at + 1, left - 1);
         let Derivation::Typed { words, end } = inner else {
             return inner;

@@ -1,4 +1,4 @@
-// The check of a term and of a signature list in a lent workspace.
+// The check of a term, of a statement and of a signature list in a lent workspace, and of the operations' constants.
 pub mod check;
 pub mod derive;
 pub mod operations;

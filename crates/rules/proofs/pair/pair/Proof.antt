@@ -19,6 +19,7 @@ record Sizes (len plen at next m : ℕ) : Type 0 where
   some : at + 2 ≤ next
   inside : next ≤ plen
   short : plen ≤ most-words
+  type : 1 ≤ m
   small : m ≤ most-type-words
   room : front-words ≤ len
 
@@ -28,7 +29,9 @@ sizes s =
     let e = p .pairs .next-is in
     let h = at-end (p .pairs .here) in
     let k = size-pos (p .a) in
-    record { some = omega arith; inside = omega arith; short = p .short; small = p .small; room = p .room }
+    let b = size-pos (p .B) in
+    let w = p .pairs .type-words in
+    record { some = omega arith; inside = omega arith; type = omega arith; short = p .short; small = p .small; room = p .room }
 
 -- what the test says, of any type that stands there
 fine : (c : tie.After-proposition) (a B : Term) → Pairs (c .before .before .before .before .args .proof .now) (c .before .before .before .before .args .ws .now) (c .before .before .before .before .args .at) (c .before .before .before .before .args .next) (c .before .before .before .before .args .m) a B → c .proposition .result ≡ proposition B
@@ -60,7 +63,7 @@ same-length-2 c = search needs
 returns-2 : tie.Need-returns-2
 returns-2 c =
     let a = c .before .before .before .before .before .before .args in
-    λ o x B h j. pair-long (a .proof .now) (a .ws .now) (a .at) (a .next) (a .m) (a .end) o x B j (c .before .before .proposition .result) (fine (c .before .before) x B j) (c .before .if1 .left) (c .if2 .taken)
+    λ o x B h j. pair-long (a .proof .now) (a .ws .now) (a .at) (a .next) (a .m) (a .end) o x B j (c .before .before .proposition .result) (fine (c .before .before) x B j) (c .before .if1 .left) (omega (arith, c .if2 .taken))
 
 copy-within-requires : tie.Need-copy-within-requires
 copy-within-requires c κs = let z = sizes (c .before .before .before .before .before .before .before) in record { source = omega (arith, z); target = omega (arith, z); ahead = inr (omega (arith, z)) }

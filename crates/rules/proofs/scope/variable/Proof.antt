@@ -1,6 +1,5 @@
-use Rattle.rules.proofs.Variables.{picked-true, picked-false, picked-length, Entry, entry-of, variable-unbound, variable-long, looked-up, variable-found}
-use Rattle.rules.specs.Scope.{scope-words, Binders}
-use Rattle.words.proofs.Signed.{add-fits, raw-is}
+use Rattle.rules.proofs.Variables.{amount-fits, amount-is, amount-near, picked-true, picked-false, picked-length, Entry, entry-of, variable-unbound, variable-long, looked-up, variable-found}
+use Rattle.rules.specs.Scope.{scope-words, entry-head, Binders}
 use Rattle.words.proofs.Places.{at-end, is-at}
 use Rattle.words.specs.Place.{Is}
 use Rattle.logic.specs.Term.{Term}
@@ -30,7 +29,7 @@ abbrev entry : (c : tie.Else1) → Entry (c .before .before .before .before .bef
 entry c = entry-for c (c .before .before .before .before .before .pre .Γ) (c .before .before .before .before .before .pre .binders)
 
 -- where the type starts
-from-is : (c : tie.Joined3) → c .if3 .from ≡ pick (ltb 3 (getD (c .before .before .before .before .before .before .before .before .before .before .args .ws .now) (length (c .before .before .before .before .before .before .before .before .before .before .args .ws .now) - c .before .before .before .before .before .before .binder .result) 0)) (length (c .before .before .before .before .before .before .before .before .before .before .args .ws .now) - c .before .before .before .before .before .before .binder .result + (getD (c .before .before .before .before .before .before .before .before .before .before .args .ws .now) (length (c .before .before .before .before .before .before .before .before .before .before .args .ws .now) - c .before .before .before .before .before .before .binder .result) 0 - getD (c .before .before .before .before .before .before .before .before .before .before .args .ws .now) (length (c .before .before .before .before .before .before .before .before .before .before .args .ws .now) - c .before .before .before .before .before .before .binder .result + 2) 0)) (getD (c .before .before .before .before .before .before .before .before .before .before .args .ws .now) (length (c .before .before .before .before .before .before .before .before .before .before .args .ws .now) - c .before .before .before .before .before .before .binder .result + 1) 0)
+from-is : (c : tie.Joined3) → c .if3 .from ≡ pick (ltb entry-head (getD (c .before .before .before .before .before .before .before .before .before .before .args .ws .now) (length (c .before .before .before .before .before .before .before .before .before .before .args .ws .now) - c .before .before .before .before .before .before .binder .result) 0)) (length (c .before .before .before .before .before .before .before .before .before .before .args .ws .now) - c .before .before .before .before .before .before .binder .result + (getD (c .before .before .before .before .before .before .before .before .before .before .args .ws .now) (length (c .before .before .before .before .before .before .before .before .before .before .args .ws .now) - c .before .before .before .before .before .before .binder .result) 0 - getD (c .before .before .before .before .before .before .before .before .before .before .args .ws .now) (length (c .before .before .before .before .before .before .before .before .before .before .args .ws .now) - c .before .before .before .before .before .before .binder .result + 2) 0)) (getD (c .before .before .before .before .before .before .before .before .before .before .args .ws .now) (length (c .before .before .before .before .before .before .before .before .before .before .args .ws .now) - c .before .before .before .before .before .before .binder .result + 1) 0)
 from-is c = ⊎-elim (λ w. picked-true _ _ _ (w .0 .taken) (w .1)) (λ w. picked-false _ _ _ (w .0 .left) (w .1)) (c .if3 .came)
 
 -- the part that was looked up is the type's words
@@ -41,7 +40,7 @@ part c Γ b =
 
 -- an i32 that is handed on is read back from its bits
 amount : (s : tie.Start) → toZ w32 (ofZ w32 (toZ w32 (s .args .n) +ℤ pos 1)) ≡ pos (suc (s .args .n))
-amount s = raw-is (s .args .n) (pos 1) (s .pre .number) (omega arith) ∙ ap pos (add-one (s .args .n))
+amount s = amount-is (s .args .n) 1 (s .pre .number) (omega arith) ∙ ap pos (add-one (s .args .n))
 
 binder-requires : tie.Need-binder-requires
 binder-requires c κs = let s = c .before .before .before in record { proof = s .args .proof .now; Γ = s .pre .Γ; binders = s .pre .binders; below = s .pre .below; inside = omega (arith, s .pre .room) }
@@ -96,7 +95,7 @@ same-length-2 c = search needs
 returns-2 : tie.Need-returns-2
 returns-2 c =
     let s = c .before .before .before .before .before .before .before .before .before in
-    λ Γ b r. variable-long (s .args .at) (entry-for (c .before .before .before .before) Γ b) (c .if2 .taken)
+    λ Γ b r. variable-long (s .args .at) (entry-for (c .before .before .before .before) Γ b) (omega (arith, c .if2 .taken))
 
 sub-from : tie.Need-sub-from
 sub-from c = let e = entry (c .before .before .before .before .before) in omega (arith, e .within (c .if3 .taken))
@@ -109,7 +108,7 @@ add-lookup c =
     let s = c .before .before .before .before .before .before .before .before .before .before .before .before in
     let e = entry (c .before .before .before .before .before .before .before) in
     let f = from-is (c .before .before) in
-    let l = picked-length (ltb 3 (getD (s .args .ws .now) (length (s .args .ws .now) - c .before .before .before .before .before .before .before .before .binder .result) 0)) (s .args .ws .now) (s .args .proof .now) in
+    let l = picked-length (ltb entry-head (getD (s .args .ws .now) (length (s .args .ws .now) - c .before .before .before .before .before .before .before .before .binder .result) 0)) (s .args .ws .now) (s .args .proof .now) in
     omega (arith, s .good, at-end (e .here), e .type-words)
 
 lookup-requires : tie.Need-lookup-requires
@@ -119,7 +118,7 @@ cast-shift-into : tie.Need-cast-shift-into
 cast-shift-into c = search needs
 
 add-shift-into : tie.Need-add-shift-into
-add-shift-into c = let s = c .before .before .before .before .before .before .before .before .before .before .before .before .before in add-fits (s .args .n) (pos 1) (s .pre .number) (omega arith)
+add-shift-into c = let s = c .before .before .before .before .before .before .before .before .before .before .before .before .before in amount-fits (s .args .n) _ (s .pre .number) (omega arith)
 
 slice-aggregate-shift-into : tie.Need-slice-aggregate-shift-into
 slice-aggregate-shift-into c = search needs
@@ -129,7 +128,7 @@ shift-into-requires c κs =
     let s = c .before .before .before .before .before .before .before .before .before .before .before .before .before .before in
     let e = entry (c .before .before .before .before .before .before .before .before .before) in
     let n = s .pre .number in
-    (omega arith, record { term = e .type; here = is-at (part (c .before) (s .pre .Γ) (s .pre .binders)); fits = omega (arith, e .type-words, c .before .before .before .before .before .if2 .left); deep = omega (arith, e .type-words, c .before .before .before .before .before .if2 .left); near = rw (amount s) (omega arith) })
+    (omega arith, record { term = e .type; here = is-at (part (c .before) (s .pre .Γ) (s .pre .binders)); fits = omega (arith, e .type-words, c .before .before .before .before .before .if2 .left); deep = omega (arith, e .type-words, c .before .before .before .before .before .if2 .left); near = amount-near (s .args .n) _ n (omega arith) })
 
 slice-aggregate-copy : tie.Need-slice-aggregate-copy
 slice-aggregate-copy c = search needs

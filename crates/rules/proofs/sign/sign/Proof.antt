@@ -60,7 +60,7 @@ same-length-2 c = search needs
 returns-2 : tie.Need-returns-2
 returns-2 c =
     let a = c .before .before .before .before .before .before .args in
-    λ x q s j. sign-long (a .proof .now) (a .ws .now) (a .at) (a .n) (a .end) x q s j (c .before .before .front-is .result) (fine (c .before .before) x q s j) (c .before .if1 .left) (c .if2 .taken)
+    λ x q s j. sign-long (a .proof .now) (a .ws .now) (a .at) (a .n) (a .end) x q s j (c .before .before .front-is .result) (fine (c .before .before) x q s j) (c .before .if1 .left) (omega (arith, c .if2 .taken))
 
 mul-ws : tie.Need-mul-ws
 mul-ws c = search needs

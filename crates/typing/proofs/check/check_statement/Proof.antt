@@ -6,13 +6,10 @@ use Rattle.logic.specs.Term.{propA, Term, P}
 use Rattle.logic.specs.Infer.{same}
 use Rattle.typing.specs.Check.{Constants-of}
 use Rattle.typing.proofs.Statements.{Typed-as, statement-refused, statement-typed, no-proposition, long-statement, short-statement}
+use native.Mathlib.Omega.{arith}
 use borrow.Author.Needs.{needs}
 use Rattle.typing.proofs.check.check_statement.Statement.{statement}
 use Rattle.typing.proofs.check.check_statement.Tie as tie
-use Rattle.typing.proofs.check.check_statement.Reads as reads
-use Rattle.typing.proofs.check.check_statement.Lts as lts
-use Rattle.rules.proofs.front.front_is.Reads as front-is-reads
-use Rattle.typing.proofs.check.check_term.Reads as check-term-reads
 
 -- the proposition and its type
 typed : (c : tie.After-front-is) (Σ : List Term) (a : ℕ) → Constants-of (c .before .before .before .before .before .before .before .before .before .before .before .before .before .args .sig .now) (c .before .before .before .before .before .before .before .before .before .before .before .before .before .args .table .now) Σ → Typed-as Σ a (c .before .before .before .before .before .before .before .before .before .before .before .before .before .args .proposition .now) (c .before .before .before .before .before .before .before .check-term .last .1 .1 .1 .1 .1 .0) (c .before .before .before .typed2 .given .0 .0)
@@ -50,7 +47,7 @@ same-length-2 : tie.Need-same-length-2
 same-length-2 c = search needs
 
 returns-2 : tie.Need-returns-2
-returns-2 c = λ Σ a C. long-statement Σ a (c .before .before .before .before .before .before .before .before .before .before .before .before .before .before .before .args .proposition .now) _ _ (typed (c .before .before) Σ a C) (sym (not-false (c .before .before .front-is .result) (c .before .if1 .left)) ∙ proposed (c .before .before) Σ a C) (c .if2 .taken)
+returns-2 c = λ Σ a C. long-statement Σ a (c .before .before .before .before .before .before .before .before .before .before .before .before .before .before .before .args .proposition .now) _ _ (typed (c .before .before) Σ a C) (sym (not-false (c .before .before .front-is .result) (c .before .if1 .left)) ∙ proposed (c .before .before) Σ a C) (omega (arith, c .if2 .taken))
 
 same-length-3 : tie.Need-same-length-3
 same-length-3 c = search needs

@@ -12,11 +12,6 @@ use native.Mathlib.Omega.{arith}
 use borrow.Author.Needs.{needs}
 use Rattle.typing.proofs.check.check_term.Statement.{statement}
 use Rattle.typing.proofs.check.check_term.Tie as tie
-use Rattle.typing.proofs.check.check_term.Reads as reads
-use Rattle.typing.proofs.check.check_term.Lts as lts
-use Rattle.typing.proofs.derive.derive.Reads as derive-reads
-use Rattle.words.proofs.nesting.nested.Reads as nested-reads
-use Rattle.words.proofs.read.read_whole.Reads as read-whole-reads
 
 -- the term that was read
 read : (c : tie.After-enum-told) → Term-in (c .before .before .before .before .before .before .before .before .before .args .term .now)
@@ -29,7 +24,7 @@ ready : (c : tie.After-enum-told2) (ws : List ℕ) (Σ : List Term) → Constant
 ready c ws Σ C = ready-term (c .before .before .before .before .before .before .before .before .before .before .before .before .args .sig .now) (c .before .before .before .before .before .before .before .before .before .before .before .before .args .table .now) (c .before .before .before .before .before .before .before .before .before .before .before .before .args .term .now) ws (c .before .before .before .before .before .before .before .before .before .before .before .before .args .deep) Σ (read (c .before .before .before) .term) C (read (c .before .before .before) .is) (not-deep c) (c .before .before .before .before .before .before .before .before .before .before .before .before .pre .nesting)
 
 returns : tie.Need-returns
-returns c = λ Σ C. empty-term Σ (c .before .before .before .before .before .args .most) (c .before .before .before .before .before .args .deep) (c .before .before .before .before .before .args .term .now) (c .before .before .before .before .before .args .ws .now) (c .if1 .taken)
+returns c = λ Σ C. empty-term Σ (c .before .before .before .before .before .args .most) (c .before .before .before .before .before .args .deep) (c .before .before .before .before .before .args .term .now) (c .before .before .before .before .before .args .ws .now) (omega (arith, c .if1 .taken))
 
 returns-2 : tie.Need-returns-2
 returns-2 c = λ Σ C. long-term Σ (c .before .before .before .before .before .before .args .most) (c .before .before .before .before .before .before .args .deep) (c .before .before .before .before .before .before .args .term .now) (c .before .before .before .before .before .before .args .ws .now) (c .if2 .taken)

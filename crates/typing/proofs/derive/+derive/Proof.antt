@@ -4,13 +4,12 @@ use native.Mathlib.Omega.{arith}
 use Prim.Native.Nat.{ℕ, _+_, _-_, _≤_, _<_}
 use mathlib.Core.Path.{_≡_, _∙_}
 use mathlib.Core.List.{List, []}
-use lib.ListN.{length, getD}
+use lib.ListN.{length}
 use borrow.Fn.Kinds.{In}
 use borrow.Fn.PlainCycle.{Measures, is, falls, and}
 use Rattle.logic.specs.Refusals.{condition-fails}
 use Rattle.logic.specs.Term.{Op, Term, node, size}
 use Rattle.logic.specs.Infer.{infer}
-use Rattle.logic.specs.Limits.{most-type-words}
 use Rattle.logic.proofs.Searches.{depth-pos}
 use Rattle.words.specs.Place.{At}
 use Rattle.words.proofs.Places.{at-kind, at-end, size-pos}
@@ -20,8 +19,8 @@ use Rattle.rules.specs.Form.{level-words}
 use Rattle.typing.specs.Derive.{Ready, Derived}
 use Rattle.rules.specs.declared.derivation.Derivation.{Derivation}
 use Rattle.rules.specs.declared.derivation.Derivation.the-variants.{Refused}
-use Rattle.typing.proofs.Tails.{rest-of, whole-of, rest-length, whole-length}
-use Rattle.typing.proofs.Derives.{Between, between, Inside, inside, Signed-in, signed-in, sign-derived, sign-refused, sign-ready, first-ready, two-deep, second-ready, level, atom-derived, variable-derived, first-refusal, test-refusal, second-refusal, formable, forms-here, node-derived, NodeAt, node-case, SignAt, sign-case}
+use Rattle.typing.proofs.Tails.{rest-of, whole-of, rest-length}
+use Rattle.typing.proofs.Derives.{Between, between, Inside, inside, signed-in, sign-derived, sign-refused, sign-ready, first-ready, two-deep, second-ready, level, atom-derived, variable-derived, first-refusal, test-refusal, second-refusal, formable, forms-here, node-derived, NodeAt, node-case, SignAt, sign-case}
 use Rattle.typing.proofs.derive.derive.Reads as derive
 use Rattle.typing.proofs.derive.derive.Kinds as kinds
 use Rattle.typing.proofs.derive.+derive.Lts-derive as lts

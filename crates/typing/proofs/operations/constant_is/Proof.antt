@@ -11,9 +11,6 @@ use Rattle.typing.proofs.Permits.{no-constant, compared}
 use borrow.Author.Needs.{needs}
 use Rattle.typing.proofs.operations.constant_is.Statement.{statement}
 use Rattle.typing.proofs.operations.constant_is.Tie as tie
-use Rattle.typing.proofs.operations.constant_is.Reads as reads
-use Rattle.typing.proofs.operations.constant_is.Lts as lts
-use Rattle.words.proofs.part.same.Reads as same-reads
 
 -- where the type stands, by any constants that are declared, and by those that `requires` brought
 here-for : (c : tie.Else1) (Σ : List Term) → Declared (c .before .before .before .before .args .sig .now) (c .before .before .before .before .args .table .now) Σ → ConstantAt (c .before .before .before .before .args .sig .now) (c .before .before .before .before .args .table .now) (c .before .before .before .before .args .i) Σ

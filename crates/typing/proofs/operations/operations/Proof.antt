@@ -1,5 +1,5 @@
 use borrow.Author.Needs.{needs}
-use Prim.Native.Nat.{ℕ, _-_, _≤_}
+use Prim.Native.Nat.{_-_, _≤_}
 use native.Mathlib.Omega.{arith}
 use mathlib.Core.Path.{_≡_, refl, sym, ap, _∙_}
 use mathlib.Core.Bool.{true}
@@ -13,9 +13,6 @@ use Rattle.rules.specs.Scope.{Declared}
 use Rattle.typing.proofs.Permits.{no-operation, too-many-operations, no-permit, no-receipt, all-operations, no-operations, one-operation}
 use Rattle.typing.proofs.operations.operations.Statement.{statement}
 use Rattle.typing.proofs.operations.operations.Tie as tie
-use Rattle.typing.proofs.operations.operations.Reads as reads
-use Rattle.typing.proofs.operations.operations.Lts as lts
-use Rattle.typing.proofs.operations.constant_is.Reads as constant-is-reads
 
 abbrev Inv-loop : tie.InvT-loop
 Inv-loop sig table n count pi string prop permit receipt i₀ i = (i ≤ count) × ((Σ : List Term) → Declared sig table Σ → operations Σ i ≡ true)

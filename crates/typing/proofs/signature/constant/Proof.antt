@@ -10,10 +10,6 @@ use native.Mathlib.Omega.{arith}
 use borrow.Author.Needs.{needs}
 use Rattle.typing.proofs.signature.constant.Statement.{statement}
 use Rattle.typing.proofs.signature.constant.Tie as tie
-use Rattle.typing.proofs.signature.constant.Reads as reads
-use Rattle.typing.proofs.signature.constant.Lts as lts
-use Rattle.typing.proofs.check.check_term.Reads as check-term-reads
-use Rattle.rules.proofs.front.front_is.Reads as front-is-reads
 
 -- what the check of the constant's words tells
 judged : (c : tie.After-check-term) (Σ : List Term) → Constants-of (c .before .before .before .before .before .before .before .before .before .before .args .sig .now) (c .before .before .before .before .before .before .before .before .before .before .args .table .now) Σ

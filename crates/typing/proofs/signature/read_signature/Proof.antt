@@ -1,5 +1,5 @@
-use Prim.Native.Nat.{ℕ, _+_, _-_, _≤_}
-use mathlib.Core.Bool.{true, false}
+use Prim.Native.Nat.{_+_, _-_, _≤_}
+use mathlib.Core.Bool.{true}
 use borrow.Author.Tests.{not-true, not-false}
 use mathlib.Core.Path.{_≡_, refl, sym, _∙_}
 use lib.ListN.{length, drop, getD, length-set}
@@ -9,9 +9,6 @@ use borrow.Author.Needs.{needs}
 use native.Mathlib.Omega.{arith}
 use Rattle.typing.proofs.signature.read_signature.Statement.{statement}
 use Rattle.typing.proofs.signature.read_signature.Tie as tie
-use Rattle.typing.proofs.signature.read_signature.Reads as reads
-use Rattle.typing.proofs.signature.read_signature.Lts as lts
-use Rattle.typing.proofs.signature.constant.Reads as constant-reads
 
 abbrev Inv-loop : tie.InvT-loop
 Inv-loop sig table₀ ws₀ at₀ count₀ table ws at count = Reading sig table at count × (length table ≡ length table₀) × (length ws ≡ length ws₀)
@@ -36,7 +33,7 @@ same-length-2 : tie.Need-same-length-2 Inv-loop μ-loop
 same-length-2 c = search needs
 
 returns : tie.Need-returns Inv-loop μ-loop
-returns c = let s = c .before .before .before .before .before .before in let v = c .before .before .loop in reading-full (s .args .sig .now) (v .table) (v .at) (v .count) (v .inv .0) (v .table) (c .before .loop-test .taken) (c .if1 .taken)
+returns c = let s = c .before .before .before .before .before .before in let v = c .before .before .loop in reading-full (s .args .sig .now) (v .table) (v .at) (v .count) (v .inv .0) (v .table) (c .before .loop-test .taken) (omega (arith, c .if1 .taken))
 
 slice-reshare-prefix-constant : tie.Need-slice-reshare-prefix-constant Inv-loop μ-loop
 slice-reshare-prefix-constant c = search needs
