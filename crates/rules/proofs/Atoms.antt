@@ -113,7 +113,7 @@ element [] n h = absurd (omega arith)
 element (A ∷ l) zero h = (A, refl)
 element (A ∷ l) (suc n) h = element l n (le-of-suc-le-suc h)
 
-no-element : (l : List Term) (n : ℕ) → length l ≤ n → getElem? l n ≡ none
+pub no-element : (l : List Term) (n : ℕ) → length l ≤ n → getElem? l n ≡ none
 no-element [] n h = refl
 no-element (A ∷ l) zero h = absurd (omega arith)
 no-element (A ∷ l) (suc n) h = no-element l n (le-of-suc-le-suc h)

@@ -1,8 +1,8 @@
 // The result of an App.
-use crate::derivation::CONDITION_FAILS;
 use crate::derivation::Derivation;
-use crate::derivation::MOST_TYPE_WORDS;
-use crate::derivation::TYPE_TOO_LONG;
+use logic::limit::MOST_TYPE_WORDS;
+use logic::refusal::CONDITION_FAILS;
+use logic::refusal::TYPE_TOO_LONG;
 use words::fill::Filled;
 use words::fill::fill_into;
 use words::part::copy;

@@ -1,8 +1,8 @@
 // The type of a word that has no children and is no variable.
 use crate::derivation::Derivation;
-use crate::derivation::MOST_TYPE_WORDS;
-use crate::derivation::TYPE_TOO_LONG;
-use crate::derivation::UNKNOWN_CONSTANT;
+use logic::limit::MOST_TYPE_WORDS;
+use logic::refusal::TYPE_TOO_LONG;
+use logic::refusal::UNKNOWN_CONSTANT;
 use logic::word::PAYLOADS;
 use logic::word::TAG_CONSTANT;
 use logic::word::TAG_KIND_P;

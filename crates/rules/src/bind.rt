@@ -1,7 +1,7 @@
 // The result of a Bind.
-use crate::derivation::CONDITION_FAILS;
 use crate::derivation::Derivation;
 use crate::scope::ENTRY_HEAD;
+use logic::refusal::CONDITION_FAILS;
 use words::occurrence::Occurrence;
 use words::occurrence::occurs;
 use words::part::same;

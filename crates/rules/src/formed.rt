@@ -1,10 +1,10 @@
 // The result of a node, from its children and their types.
 use crate::apply::apply;
 use crate::bind::bind;
-use crate::derivation::CONDITION_FAILS;
 use crate::derivation::Derivation;
 use crate::front::front_is;
 use crate::pair::pair;
+use logic::refusal::CONDITION_FAILS;
 use logic::word::PAYLOADS;
 use logic::word::TAG_APP;
 use logic::word::TAG_BIND;

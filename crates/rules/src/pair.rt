@@ -1,11 +1,11 @@
 // The results of a Lam and of a Ret: a node of the first child and of the second's type.
-use crate::derivation::CONDITION_FAILS;
 use crate::derivation::Derivation;
-use crate::derivation::MOST_TYPE_WORDS;
-use crate::derivation::TYPE_TOO_LONG;
+use logic::limit::MOST_TYPE_WORDS;
+use logic::refusal::CONDITION_FAILS;
+use logic::refusal::TYPE_TOO_LONG;
 use words::part::copy;
-use words::proposition::proposition;
 use words::part::copy_within;
+use words::proposition::proposition;
 ghost use mathlib.Core.Path.{_≡_};
 ghost use Rattle.logic.specs.Term.{Op, Term, opWord};
 ghost use Rattle.rules.specs.Rule.{paired};

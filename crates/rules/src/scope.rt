@@ -1,8 +1,8 @@
 // The binders in scope, whose entries are kept at the end of the workspace, the nearest first.
 use crate::derivation::Derivation;
-use crate::derivation::MOST_TYPE_WORDS;
-use crate::derivation::TYPE_TOO_LONG;
-use crate::derivation::UNBOUND_VARIABLE;
+use logic::limit::MOST_TYPE_WORDS;
+use logic::refusal::TYPE_TOO_LONG;
+use logic::refusal::UNBOUND_VARIABLE;
 use words::lookup::lookup;
 use words::part::copy;
 use words::shift::shift_into;

@@ -1,9 +1,9 @@
 // The result of a Sign.
-use crate::derivation::CONDITION_FAILS;
 use crate::derivation::Derivation;
-use crate::derivation::MOST_TYPE_WORDS;
-use crate::derivation::TYPE_TOO_LONG;
 use crate::front::front_is;
+use logic::limit::MOST_TYPE_WORDS;
+use logic::refusal::CONDITION_FAILS;
+use logic::refusal::TYPE_TOO_LONG;
 use logic::word::PAYLOADS;
 use logic::word::TAG_NAME;
 use logic::word::TAG_PROP;

@@ -39,11 +39,11 @@ use Rattle.rules.specs.declared.derivation.Derivation.the-variants.{Typed, Refu
 judged-refused : (o : Result Term) (end : ℕ) (new : List ℕ) (m p : ℕ) → o ≡ refused m p → Judged o end new (Refused m p)
 judged-refused o end new m p e = subst (λ (x : Result Term). Judged x end new (Refused m p)) (sym e) (record { answer = refl; front = tt })
 
-and-false : (a : Bool) → (a && false) ≡ false
+pub and-false : (a : Bool) → (a && false) ≡ false
 and-false true = refl
 and-false false = refl
 
-require-false : {X : Type 0} (b : Bool) (m p : ℕ) (r : Result X) → b ≡ false → (require b m p >> r) ≡ refused m p
+pub require-false : {X : Type 0} (b : Bool) (m p : ℕ) (r : Result X) → b ≡ false → (require b m p >> r) ≡ refused m p
 require-false true m p r e = absurd (clash (cc))
 require-false false m p r e = refl
 

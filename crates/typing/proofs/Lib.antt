@@ -4,3 +4,5 @@ pub mod Uniform
 pub mod Derives
 pub mod Checks
 pub mod Listings
+pub mod Statements
+pub mod Permits

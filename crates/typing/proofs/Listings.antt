@@ -30,6 +30,7 @@ use Rattle.rules.specs.Scope.{Declared}
 use Rattle.logic.specs.SignatureList.{at-constant, constant, constants, signature}
 use Rattle.rules.specs.Form.{answer-of, Front}
 use Rattle.typing.specs.Check.{Constants-of, typed-term, Judged, passed, constant-at, Read-as}
+use Rattle.typing.proofs.Checks.{and-false, require-false}
 use Rattle.rules.specs.declared.derivation.Derivation.{Derivation}
 use Rattle.rules.specs.declared.derivation.Derivation.the-variants.{Typed, Refused}
 use Rattle.typing.specs.declared.signature.Listed.{Listed}
@@ -37,10 +38,6 @@ use Rattle.typing.specs.declared.signature.Listed.the-variants.{Accepted
 use Rattle.logic.proofs.SignatureList.{constant-right}
 
 -- ---- one constant
-
-and-false : (a : Bool) → (a && false) ≡ false
-and-false true = refl
-and-false false = refl
 
 -- where a word stands at a place, the list goes on with it
 word-there : (sig : List ℕ) (at : ℕ) → at < length sig → drop at sig ≡ getD sig at 0 ∷ drop (at + 1) sig
@@ -127,10 +124,6 @@ listable n ws = leb 1 n && leb n most-constant-words && leb n (length ws)
 with-count : (b : Bool) (n : ℕ) (ws : List ℕ) → b ≡ true → (b && leb 1 n && leb n most-constant-words && leb n (length ws)) ≡ listable n ws
 with-count b n ws e = ap (λ (x : Bool). x && leb 1 n && leb n most-constant-words && leb n (length ws)) e
 
-tests-refused : {X : Type 0} (b : Bool) (at : ℕ) (r : Result X) → b ≡ false → (require b bad-signature at >> r) ≡ refused bad-signature at
-tests-refused true at r e = absurd (clash (cc))
-tests-refused false at r e = refl
-
 no-constant : (x : Result Term) (at : ℕ) (f : Term → Result (List Term)) → passed x ≡ false → (at-constant at x >>= f) ≡ refused bad-signature at
 no-constant (ok A) at f e = absurd (clash (cc))
 no-constant (refused m p) at f e = refl
@@ -143,15 +136,15 @@ bad-constant k at Σ (n ∷ ws) l e = go (ltb (length Σ) most-constants) (lista
   where
     go : (c b : Bool) → ltb (length Σ) most-constants ≡ c → listable n ws ≡ b → (b && passed (constant Σ (take n ws))) ≡ false
         → (require (ltb (length Σ) most-constants && leb 1 n && leb n most-constant-words && leb n (length ws)) bad-signature at >> (at-constant at (constant Σ (take n ws)) >>= λ A. constants k (at + 1 + n) (Σ ++ (A ∷ [])) (drop n ws))) ≡ refused bad-signature at
-    go false b p q f = tests-refused _ at _ (ap (λ (x : Bool). x && leb 1 n && leb n most-constant-words && leb n (length ws)) p)
-    go true false p q f = tests-refused _ at _ (with-count _ n ws p ∙ q)
+    go false b p q f = require-false _ bad-signature at _ (ap (λ (x : Bool). x && leb 1 n && leb n most-constant-words && leb n (length ws)) p)
+    go true false p q f = require-false _ bad-signature at _ (with-count _ n ws p ∙ q)
     go true true p q f = pass bad-signature at (with-count _ n ws p ∙ q) (no-constant (constant Σ (take n ws)) at _ f)
 
 -- or with one too many
 full-list : (k at : ℕ) (Σ : List Term) (ws : List ℕ) → 0 < length ws → most-constants ≤ length Σ → constants (suc k) at Σ ws ≡ refused bad-signature at
 unfolding constants
 full-list k at Σ [] l h = absurd (omega arith)
-full-list k at Σ (n ∷ ws) l h = tests-refused _ at _ (ap (λ (x : Bool). x && leb 1 n && leb n most-constant-words && leb n (length ws)) (le-ltb (length Σ) most-constants h))
+full-list k at Σ (n ∷ ws) l h = require-false _ bad-signature at _ (ap (λ (x : Bool). x && leb 1 n && leb n most-constant-words && leb n (length ws)) (le-ltb (length Σ) most-constants h))
 
 -- one constant more, whose type A stands behind its length word
 pub record One (Σ : List Term) (k at : ℕ) (ws : List ℕ) : Type 0 where

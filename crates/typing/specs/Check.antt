@@ -73,3 +73,8 @@ pub record Listable (sig table ws : List ℕ) (at : ℕ) : Type 0 where
   pub constants : Constants-of sig table Σ
   pub workspace : least-workspace ≤ length ws
   pub inside : at < length sig
+
+-- some constants' types stand where the table says
+pub record Declares (sig table : List ℕ) : Type 0 where
+  pub Σ : List Term
+  pub declared : Declared sig table Σ

@@ -1,15 +1,30 @@
 // Tests 6 to 12 on a term's words.
+use crate::derive::derive;
+use logic::limit::MOST_STATEMENT_NESTING;
+use logic::limit::MOST_STATEMENT_WORDS;
+use logic::limit::MOST_TYPE_WORDS;
+use logic::refusal::CONDITION_FAILS;
+use logic::refusal::MALFORMED;
+use logic::refusal::NESTING;
+use logic::refusal::TERM_LENGTH;
+use logic::refusal::TYPE_TOO_LONG;
+use logic::word::PAYLOADS;
+use logic::word::TAG_PROP;
 use rules::derivation::Derivation;
 use rules::derivation::Verdict;
-use crate::derive::derive;
+use rules::front::front_is;
 use words::nesting::Nesting;
 use words::nesting::nested;
 use words::read::Parse;
 use words::read::read_whole;
+ghost use Prim.Native.Nat.{ℕ};
 ghost use lib.ListN.{length};
+ghost use mathlib.Core.Path.{_≡_};
 ghost use mathlib.Core.List.{List};
+ghost use Rattle.logic.specs.Limits.{most-statement-words, most-statement-nesting};
 ghost use Rattle.logic.specs.Term.{Term};
-ghost use Rattle.typing.specs.Check.{Constants-of, Checkable, typed-term, Judged};
+ghost use Rattle.logic.specs.Check.{check-statement};
+ghost use Rattle.typing.specs.Check.{Constants-of, Checkable, typed-term, Judged, verdict-of};
 
 // The type of a term of at most `most` words, nested at most `deep`, at the front of the workspace.
 pub fn check_term(
@@ -26,23 +41,64 @@ pub fn check_term(
     let len = term.len();
     if len < 1 {
         return Derivation::Refused {
-            number: 6,
+            number: TERM_LENGTH,
             place: 0,
         };
     }
     if most < len {
         return Derivation::Refused {
-            number: 6,
+            number: TERM_LENGTH,
             place: 0,
         };
     }
     let whole = read_whole(term);
     if let Parse::Bad(place) = whole {
-        return Derivation::Refused { number: 7, place };
+        return Derivation::Refused {
+            number: MALFORMED,
+            place,
+        };
     }
     let nesting = nested(term, 0, deep);
     if let Nesting::Past(place) = nesting {
-        return Derivation::Refused { number: 8, place };
+        return Derivation::Refused {
+            number: NESTING,
+            place,
+        };
     }
     derive(sig, table, term, ws, 0, 0, 0, deep)
+}
+
+// Tests 6 to 12 of a proposition as the term Sign: its places count from 0, and a fault at the added word is at place 0. That word counts for 6 and 8.
+pub fn check_statement(sig: &[u32], table: &[u32], proposition: &[u32], ws: &mut [u32]) -> Verdict
+    requires { ⌜ Checkable (now sig) (now table) (now ws) most-statement-words most-statement-nesting ⌝ }
+    ensures { λ r. ⌜ ((Σ : List Term) → (a : ℕ) → Constants-of (now (sig .entry)) (now (table .entry)) Σ → r ≡ verdict-of (check-statement Σ a (now (proposition .entry)))) ⌝ }
+{
+    let typed = check_term(
+        sig,
+        table,
+        proposition,
+        MOST_STATEMENT_WORDS,
+        MOST_STATEMENT_NESTING,
+        ws,
+    );
+    match typed {
+        Derivation::Refused { number, place } => Verdict::Fault { number, place },
+        Derivation::Typed { words, end: _ } => {
+            let fine = front_is(&ws[..], words, TAG_PROP * PAYLOADS);
+            if !fine {
+                return Verdict::Fault {
+                    number: CONDITION_FAILS,
+                    place: 0,
+                };
+            }
+            // Says, the principal and the proposition
+            if MOST_TYPE_WORDS < proposition.len() + 2 {
+                return Verdict::Fault {
+                    number: TYPE_TOO_LONG,
+                    place: 0,
+                };
+            }
+            Verdict::Passed
+        }
+    }
 }

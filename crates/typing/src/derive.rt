@@ -1,17 +1,17 @@
 // The derivation of a term's type.
+use logic::refusal::CONDITION_FAILS;
+use logic::word::ATOM;
+use logic::word::PAYLOADS;
+use logic::word::SIGN;
+use logic::word::VARIABLE;
+use logic::word::kind;
 use rules::atom::atom;
-use rules::derivation::CONDITION_FAILS;
 use rules::derivation::Derivation;
 use rules::enter::Entered;
 use rules::enter::enter;
 use rules::formed::formed;
 use rules::scope::variable;
 use rules::sign::sign;
-use logic::word::ATOM;
-use logic::word::PAYLOADS;
-use logic::word::SIGN;
-use logic::word::VARIABLE;
-use logic::word::kind;
 ghost use Prim.Native.Nat.{_+_};
 ghost use mathlib.Core.List.{List};
 ghost use Rattle.logic.specs.Term.{Term, size};
@@ -54,7 +54,8 @@ pub fn derive(
     let Derivation::Typed {
         words: n,
         end: next,
-    } = first else {
+    } = first
+    else {
         return first;
     };
     let entered = enter(proof, ws, used, at, next, n);
@@ -65,7 +66,16 @@ pub fn derive(
         };
     };
     // "Each nested rule works in what is left of the workspace"
-    let second = derive(sig, table, proof, &mut ws[keep..], floor, kept, next, left - 1);
+    let second = derive(
+        sig,
+        table,
+        proof,
+        &mut ws[keep..],
+        floor,
+        kept,
+        next,
+        left - 1,
+    );
     let Derivation::Typed { words: m, end } = second else {
         return second;
     };

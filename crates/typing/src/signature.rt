@@ -1,8 +1,13 @@
 // The signature list: a length word and a type for each constant.
 use crate::check::check_term;
+use logic::limit::MOST_CONSTANT_WORDS;
+use logic::limit::MOST_CONSTANTS;
+use logic::limit::MOST_NESTING;
+use logic::limit::MOST_WORDS;
+use logic::word::PAYLOADS;
+use logic::word::TAG_KIND_P;
 use rules::derivation::Derivation;
 use rules::front::front_is;
-use logic::word::PAYLOADS;
 ghost use mathlib.Core.Path.{_≡_};
 ghost use mathlib.Core.List.{List};
 ghost use lib.ListN.{drop};
@@ -25,20 +30,27 @@ fn constant(sig: &[u32], table: &[u32], at: usize, ws: &mut [u32]) -> bool
     if n < 1 {
         return false;
     }
-    if 256 < n {
+    if MOST_CONSTANT_WORDS < n {
         return false;
     }
     let start = at + 1;
     if sig.len() - start < n {
         return false;
     }
-    let typed = check_term(sig, table, &sig[start..start + n], 2048, 32, ws);
+    let typed = check_term(
+        sig,
+        table,
+        &sig[start..start + n],
+        MOST_WORDS,
+        MOST_NESTING,
+        ws,
+    );
     match typed {
         Derivation::Refused {
             number: _,
             place: _,
         } => false,
-        Derivation::Typed { words, end: _ } => front_is(&ws[..], words, 16 * PAYLOADS),
+        Derivation::Typed { words, end: _ } => front_is(&ws[..], words, TAG_KIND_P * PAYLOADS),
     }
 }
 
@@ -50,7 +62,7 @@ pub fn read_signature(sig: &[u32], table: &mut [u32], ws: &mut [u32]) -> Listed
     let mut at: usize = 0;
     let mut count: usize = 0;
     while at < sig.len() {
-        if 256 <= count {
+        if MOST_CONSTANTS <= count {
             return Listed::Bad { place: at };
         }
         let fine = constant(sig, &table[..count], at, ws);

@@ -1,0 +1,84 @@
+use Prim.Native.Nat.{ℕ}
+use mathlib.Core.Path.{_≡_, refl, sym, _∙_}
+use mathlib.Core.List.{List}
+use borrow.Author.Tests.{not-true, not-false}
+use Rattle.logic.specs.Term.{propA, Term, P}
+use Rattle.logic.specs.Infer.{same}
+use Rattle.typing.specs.Check.{Constants-of}
+use Rattle.typing.proofs.Statements.{Typed-as, statement-refused, statement-typed, no-proposition, long-statement, short-statement}
+use borrow.Author.Needs.{needs}
+use Rattle.typing.proofs.check.check_statement.Statement.{statement}
+use Rattle.typing.proofs.check.check_statement.Tie as tie
+use Rattle.typing.proofs.check.check_statement.Reads as reads
+use Rattle.typing.proofs.check.check_statement.Lts as lts
+use Rattle.rules.proofs.front.front_is.Reads as front-is-reads
+use Rattle.typing.proofs.check.check_term.Reads as check-term-reads
+
+-- the proposition and its type
+typed : (c : tie.After-front-is) (Σ : List Term) (a : ℕ) → Constants-of (c .before .before .before .before .before .before .before .before .before .before .before .before .before .args .sig .now) (c .before .before .before .before .before .before .before .before .before .before .before .before .before .args .table .now) Σ → Typed-as Σ a (c .before .before .before .before .before .before .before .before .before .before .before .before .before .args .proposition .now) (c .before .before .before .before .before .before .before .check-term .last .1 .1 .1 .1 .1 .0) (c .before .before .before .typed2 .given .0 .0)
+typed c Σ a C = statement-typed Σ a (c .before .before .before .before .before .before .before .before .before .before .before .before .before .args .proposition .now) _ (c .before .before .before .before .before .before .before .check-term .result) _ (c .before .before .before .before .before .before .before .check-term .ensures Σ C) _ _ (c .before .before .before .typed2 .given .1)
+
+-- the test of its type
+proposed : (c : tie.After-front-is) (Σ : List Term) (a : ℕ) (C : Constants-of (c .before .before .before .before .before .before .before .before .before .before .before .before .before .args .sig .now) (c .before .before .before .before .before .before .before .before .before .before .before .before .before .args .table .now) Σ) → c .front-is .result ≡ same (typed c Σ a C .A) P
+proposed c Σ a C = let S = typed c Σ a C in c .front-is .ensures (S .A) propA (S .type) (S .type-words) refl tt
+
+check-term-requires : tie.Need-check-term-requires
+check-term-requires c κs = search needs
+
+enum-known-typed : tie.Need-enum-known-typed
+enum-known-typed c = search needs
+
+enum-known-typed-2 : tie.Need-enum-known-typed-2
+enum-known-typed-2 c = search needs
+
+mul-front-is : tie.Need-mul-front-is
+mul-front-is c = search needs
+
+front-is-requires : tie.Need-front-is-requires
+front-is-requires c κs = search needs
+
+same-length : tie.Need-same-length
+same-length c = search needs
+
+returns : tie.Need-returns
+returns c = λ Σ a C. no-proposition Σ a (c .before .before .before .before .before .before .before .before .before .before .before .before .before .before .args .proposition .now) _ _ (typed (c .before) Σ a C) (sym (not-true (c .before .front-is .result) (c .if1 .taken)) ∙ proposed (c .before) Σ a C)
+
+add-if2 : tie.Need-add-if2
+add-if2 c = search needs
+
+same-length-2 : tie.Need-same-length-2
+same-length-2 c = search needs
+
+returns-2 : tie.Need-returns-2
+returns-2 c = λ Σ a C. long-statement Σ a (c .before .before .before .before .before .before .before .before .before .before .before .before .before .before .before .args .proposition .now) _ _ (typed (c .before .before) Σ a C) (sym (not-false (c .before .before .front-is .result) (c .before .if1 .left)) ∙ proposed (c .before .before) Σ a C) (c .if2 .taken)
+
+same-length-3 : tie.Need-same-length-3
+same-length-3 c = search needs
+
+returns-3 : tie.Need-returns-3
+returns-3 c = λ Σ a C. statement-refused Σ a (c .before .before .before .before .before .before .before .before .before .before .before .args .proposition .now) _ (c .before .before .before .before .before .check-term .result) _ (c .before .before .before .before .before .check-term .ensures Σ C) _ _ (c .before .typed .given .1)
+
+same-length-4 : tie.Need-same-length-4
+same-length-4 c = search needs
+
+returns-4 : tie.Need-returns-4
+returns-4 c = λ Σ a C. short-statement Σ a (c .before .before .before .before .before .before .before .before .before .before .before .before .before .before .before .args .proposition .now) _ _ (typed (c .before .before) Σ a C) (sym (not-false (c .before .before .front-is .result) (c .before .if1 .left)) ∙ proposed (c .before .before) Σ a C) (c .if2 .left)
+
+pub check-statement-spec : {M : Type 1} → statement M
+check-statement-spec =
+    tie.close
+    (tie.spec
+    check-term-requires
+    enum-known-typed
+    enum-known-typed-2
+    mul-front-is
+    front-is-requires
+    same-length
+    returns
+    add-if2
+    same-length-2
+    returns-2
+    same-length-3
+    returns-3
+    same-length-4
+    returns-4)

@@ -1,0 +1,88 @@
+use Prim.Native.Nat.{_-_}
+use native.Mathlib.Omega.{arith}
+use mathlib.Core.Path.{refl}
+use mathlib.Core.List.{List}
+use lib.ListN.{getD}
+use Rattle.logic.specs.Term.{Term}
+use Rattle.words.proofs.Places.{at-end}
+use Rattle.rules.specs.Scope.{Declared}
+use Rattle.rules.proofs.Atoms.{ConstantAt, constant-at}
+use Rattle.typing.proofs.Permits.{no-constant, compared}
+use borrow.Author.Needs.{needs}
+use Rattle.typing.proofs.operations.constant_is.Statement.{statement}
+use Rattle.typing.proofs.operations.constant_is.Tie as tie
+use Rattle.typing.proofs.operations.constant_is.Reads as reads
+use Rattle.typing.proofs.operations.constant_is.Lts as lts
+use Rattle.words.proofs.part.same.Reads as same-reads
+
+-- where the type stands, by any constants that are declared, and by those that `requires` brought
+here-for : (c : tie.Else1) (Σ : List Term) → Declared (c .before .before .before .before .args .sig .now) (c .before .before .before .before .args .table .now) Σ → ConstantAt (c .before .before .before .before .args .sig .now) (c .before .before .before .before .args .table .now) (c .before .before .before .before .args .i) Σ
+here-for c Σ d = constant-at (c .before .before .before .before .args .i) (c .if1 .left) d
+
+here : (c : tie.Else1) → ConstantAt (c .before .before .before .before .args .sig .now) (c .before .before .before .before .args .table .now) (c .before .before .before .before .args .i) (c .before .before .before .before .pre .Σ)
+here c = here-for c (c .before .before .before .before .pre .Σ) (c .before .before .before .before .pre .declared)
+
+returns : tie.Need-returns
+returns c = λ Σ A d w g. no-constant (c .before .before .before .before .args .i) A (c .if1 .taken) d
+
+mul-start : tie.Need-mul-start
+mul-start c = search needs
+
+shared-slice-read-start : tie.Need-shared-slice-read-start
+shared-slice-read-start c = search needs
+
+cast-start : tie.Need-cast-start
+cast-start c = omega (arith, c .shared-slice-known4 .given (c .before .before .before .before .before .args .i))
+
+sub-end : tie.Need-sub-end
+sub-end c = omega (arith, here (c .before) .behind)
+
+mul-end : tie.Need-mul-end
+mul-end c = let h = here (c .before) in omega (arith, c .before .before .before .before .before .good, at-end (h .here))
+
+shared-slice-read-end : tie.Need-shared-slice-read-end
+shared-slice-read-end c = let h = here (c .before .before) in omega (arith, h .behind, at-end (h .here))
+
+cast-end : tie.Need-cast-end
+cast-end c = omega (arith, c .shared-slice-known5 .given (getD (c .before .before .before .before .before .before .args .table .now) (c .before .before .before .before .before .before .args .i) 0 - 1))
+
+add-end : tie.Need-add-end
+add-end c = let h = here (c .before .before) in omega (arith, c .before .before .before .before .before .before .good, h .words, at-end (h .here))
+
+mul-same : tie.Need-mul-same
+mul-same c = let h = here (c .before .before) in omega (arith, c .before .before .before .before .before .before .good, at-end (h .here))
+
+sub-same : tie.Need-sub-same
+sub-same c = search needs
+
+part-same-start : tie.Need-part-same-start
+part-same-start c = search needs
+
+part-same-end : tie.Need-part-same-end
+part-same-end c = let h = here (c .before .before) in omega (arith, h .words, at-end (h .here))
+
+same-requires : tie.Need-same-requires
+same-requires c κs = search needs
+
+returns-2 : tie.Need-returns-2
+returns-2 c = λ Σ A d w g. compared (here-for (c .before .before .before .before) Σ d) A (c .before .before .before .before .before .before .before .before .args .words .now) _ (c .same .result) refl w g (c .same .ensures)
+
+pub constant-is-spec : {M : Type 1} → statement M
+constant-is-spec =
+    tie.close
+    (tie.spec
+    returns
+    mul-start
+    shared-slice-read-start
+    cast-start
+    sub-end
+    mul-end
+    shared-slice-read-end
+    cast-end
+    add-end
+    mul-same
+    sub-same
+    part-same-start
+    part-same-end
+    same-requires
+    returns-2)
