@@ -1,79 +1,94 @@
--- What a word begins and its tag, as the code's tests find them, and those of a term's first word.
-use Prim.Native.Nat.{ℕ, suc, _≤_, _<_}
+-- What a word begins, by the code's table of tags, and the kind and the tag of a term's first word.
+use Prim.Native.Nat.{ℕ, zero, suc, _*_, _/_, _%_, _^_, _≤_, _<_}
 use native.Mathlib.Omega.{arith}
 use mathlib.Core.Path.{_≡_, refl, sym, ap, ap₂, _∙_}
 use mathlib.Core.Bool.{Bool, true, false}
-use lib.Dec.{ltb, leb, eqb}
-use borrow.Author.Tests.{eqb-true, eqb-false, ltb-false, leb-true, leb-false}
+use lib.Dec.{eqb}
+use borrow.Author.Tests.{eqb-true, eqb-false, ne-eqb}
 use Rattle.logic.specs.Limits.{payloads}
 use Rattle.logic.specs.Tags.{tag-prop, tag-type, tag-string, tag-prin, tag-variable, tag-constant, tag-says, tag-pi, tag-lam, tag-app, tag-text, tag-name, tag-sign, tag-ret, tag-bind, tag-kindP, tag-kindT}
 use Rattle.logic.specs.Result.{pick}
 use Rattle.logic.specs.Term.{propA, typeA, stringA, prinA, kindPA, kindTA, constA, textA, nameA, Op, saysO, piO, lamO, appO, retO, bindO, binds, Term, atom, var, sign, node, word, tag-of, payload-of}
 use Rattle.logic.specs.Reading.{Shape, leaf, signed, branch, no-term, shape-of-tag, shape, Plain}
 use Rattle.logic.specs.Kind.{kind-atom, kind-variable, kind-sign, kind-node, kind-binder, kind-none, leafKind, opKind, kindOf, childrenOf, bindsOf}
+use Rattle.logic.proofs.Basics.{clash}
 use Rattle.logic.proofs.Words.{first, head, shape-first, InRange}
 
--- the kind, by the code's tests, where the payload is 0
-abbrev pub bareBy : ℕ → ℕ
-bareBy tag =
-    pick (eqb tag tag-pi) kind-binder
-    (pick (eqb tag tag-lam) kind-binder
-    (pick (eqb tag tag-bind) kind-binder
-    (pick (ltb tag tag-prop) kind-none
-    (pick (leb tag tag-prin) kind-atom
-    (pick (leb tag tag-bind) kind-node kind-none)))))
+-- ---- the table of tags, as digits of a number
 
-abbrev pub kindBy : ℕ → ℕ → ℕ
-kindBy tag p =
-    pick (eqb tag tag-variable) kind-variable
-    (pick (eqb tag tag-sign) kind-sign
-    (pick (eqb tag tag-constant) kind-atom
-    (pick (eqb tag tag-text) kind-atom
-    (pick (eqb tag tag-name) kind-atom
-    (pick (eqb p 0) (bareBy tag) kind-none)))))
+-- the digit of a tag
+abbrev pub digit : ℕ → ℕ → ℕ
+digit table tag = table / 2 ^ (tag * 4) % 16
 
-above : (t k : ℕ) → k ≤ t → eqb t k ≡ false → suc k ≤ t
-above t k l e = let n = eqb-false t k e in omega arith
+abbrev pub both : Bool → Bool → Bool
+both true b = b
+both false b = false
 
--- a row of the table
-row : (t p k : ℕ) (x y : Shape) → kindBy k p ≡ kindOf x → (eqb t k ≡ false → kindBy t p ≡ kindOf y) → kindBy t p ≡ kindOf (pick (eqb t k) x y)
-row t p k x y f g = go (eqb t k) refl
-  where
-    go : (b : Bool) → eqb t k ≡ b → kindBy t p ≡ kindOf (pick b x y)
-    go true e = ap (λ i. kindBy i p) (eqb-true t k e) ∙ f
-    go false e = g e
+-- a test passes at each number below n
+abbrev pub below : (ℕ → Bool) → ℕ → Bool
+below f zero = true
+below f (suc n) = both (f n) (below f n)
 
--- a word whose payload has to be 0
-bare-kind : (b : Bool) (x : Shape) → pick b (kindOf x) kind-none ≡ kindOf (pick b x no-term)
-bare-kind true x = refl
-bare-kind false x = refl
+both-left : (a b : Bool) → both a b ≡ true → a ≡ true
+both-left true b e = refl
+both-left false b e = e
 
--- a tag that is not listed
-last : (t : ℕ) (b none base listed : Bool)
-    → ltb t tag-prop ≡ none → leb t tag-prin ≡ base → leb t tag-bind ≡ listed
-    → (tag-prop ≤ t → t ≤ tag-prin → ⊥) → (tag-variable ≤ t → t ≤ tag-bind → ⊥)
-    → pick b (pick none kind-none (pick base kind-atom (pick listed kind-node kind-none))) kind-none ≡ kind-none
-last t false none base listed n m l f g = refl
-last t true true base listed n m l f g = refl
-last t true false true listed n m l f g = absurd (f (ltb-false t tag-prop n) (leb-true t tag-prin m))
-last t true false false true n m l f g = let h = leb-false t tag-prin m in absurd (g (omega arith) (leb-true t tag-bind l))
-last t true false false false n m l f g = refl
+both-right : (a b : Bool) → both a b ≡ true → b ≡ true
+both-right true b e = e
+both-right false b e = absurd (clash (cc))
 
-kind-table : (t p : ℕ) → kindBy t p ≡ kindOf (shape-of-tag t p)
-kind-table t p =
-    row t p tag-prop _ _ (bare-kind (eqb p 0) _) λ n1. row t p tag-type _ _ (bare-kind (eqb p 0) _) λ n2. row t p tag-string _ _ (bare-kind (eqb p 0) _) λ n3. row t p tag-prin _ _ (bare-kind (eqb p 0) _) λ n4.
-    row t p tag-variable _ _ refl λ n5. row t p tag-constant _ _ refl λ n6.
-    row t p tag-says _ _ (bare-kind (eqb p 0) _) λ n7. row t p tag-pi _ _ (bare-kind (eqb p 0) _) λ n8. row t p tag-lam _ _ (bare-kind (eqb p 0) _) λ n9. row t p tag-app _ _ (bare-kind (eqb p 0) _) λ n10.
-    row t p tag-text _ _ refl λ n11. row t p tag-name _ _ refl λ n12. row t p tag-sign _ _ refl λ n13.
-    row t p tag-ret _ _ (bare-kind (eqb p 0) _) λ n14. row t p tag-bind _ _ (bare-kind (eqb p 0) _) λ n15.
-    simp (n5, n13, n6, n11, n12, n8, n9, n15)
-    (last t (eqb p 0) (ltb t tag-prop) (leb t tag-prin) (leb t tag-bind) refl refl refl
-    (λ l m. let h = above t tag-prin (above t tag-string (above t tag-type (above t tag-prop l n1) n2) n3) n4 in omega arith)
-    (λ l m. let h = above t tag-bind (above t tag-ret (above t tag-sign (above t tag-name (above t tag-text (above t tag-app (above t tag-lam (above t tag-pi (above t tag-says (above t tag-constant (above t tag-variable l n5) n6) n7) n8) n9) n10) n11) n12) n13) n14) n15 in omega arith))
+below-step : (f : ℕ → Bool) (n k : ℕ) (b : Bool) → eqb k n ≡ b → f n ≡ true → (k < n → f k ≡ true) → k < suc n → f k ≡ true
+below-step f n k true e x y h = ap f (eqb-true k n e) ∙ x
+below-step f n k false e x y h = let d = eqb-false k n e in y (omega arith)
 
--- what the code's tests come to
-pub kind-is : (w tag p r : ℕ) → tag ≡ tag-of w → p ≡ payload-of w → kindBy tag p ≡ r → r ≡ kindOf (shape w)
-kind-is w tag p r i j e = sym e ∙ ap₂ kindBy i j ∙ kind-table (tag-of w) (payload-of w)
+below-at : (f : ℕ → Bool) (n : ℕ) → below f n ≡ true → (k : ℕ) → k < n → f k ≡ true
+below-at f zero e k h = absurd (omega arith)
+below-at f (suc n) e k h = below-step f n k (eqb k n) refl (both-left (f n) (below f n) e) (below-at f n (both-right (f n) (below f n) e) k) h
+
+-- a digit says what g tells of the words with its tag and a payload
+abbrev pub right : (Shape → ℕ) → ℕ → ℕ → ℕ → Bool
+right g table p tag = eqb (digit table tag) (g (shape-of-tag tag p))
+
+digit-at : (g : Shape → ℕ) (table p tag : ℕ) → below (right g table p) 16 ≡ true → tag ≤ tag-bind → digit table tag ≡ g (shape-of-tag tag p)
+digit-at g table p tag t h = eqb-true (digit table tag) (g (shape-of-tag tag p)) (below-at (right g table p) 16 t tag (omega arith))
+
+other : (t k : ℕ) → tag-bind < t → k ≤ tag-bind → eqb t k ≡ false
+other t k h l = ne-eqb t k (λ e. omega arith)
+
+unlisted : (t p : ℕ) → tag-bind < t → no-term ≡ shape-of-tag t p
+unlisted t p h =
+    simp (
+      other t tag-prop h (omega arith),
+      other t tag-type h (omega arith),
+      other t tag-string h (omega arith),
+      other t tag-prin h (omega arith),
+      other t tag-variable h (omega arith),
+      other t tag-constant h (omega arith),
+      other t tag-says h (omega arith),
+      other t tag-pi h (omega arith),
+      other t tag-lam h (omega arith),
+      other t tag-app h (omega arith),
+      other t tag-text h (omega arith),
+      other t tag-name h (omega arith),
+      other t tag-sign h (omega arith),
+      other t tag-ret h (omega arith),
+      other t tag-bind h (omega arith),
+    )
+
+-- the tables of words with payload 0 and with another payload say what g tells of every word with a tag that is listed
+pub record Table (g : Shape → ℕ) (bare full : ℕ) : Type 0 where
+  pub empty : below (right g bare 0) 16 ≡ true
+  pub filled : (p : ℕ) → eqb p 0 ≡ false → below (right g full p) 16 ≡ true
+
+module _ {g : Shape → ℕ} {bare full : ℕ} (table : Table g bare full) (w tag : ℕ) (i : tag ≡ tag-of w) where
+  pub table-bare : (p : ℕ) → p ≡ payload-of w → p ≡ 0 → tag ≤ tag-bind → digit bare tag ≡ g (shape w)
+  table-bare p j z h = digit-at g bare 0 tag (table .empty) h ∙ ap₂ (λ (x y : ℕ). g (shape-of-tag x y)) i (sym z ∙ j)
+
+  pub table-full : (p : ℕ) → p ≡ payload-of w → (p ≡ 0 → ⊥) → tag ≤ tag-bind → digit full tag ≡ g (shape w)
+  table-full p j z h = digit-at g full p tag (table .filled p (ne-eqb p 0 z)) h ∙ ap₂ (λ (x y : ℕ). g (shape-of-tag x y)) i j
+
+  pub table-none : tag-bind < tag → g no-term ≡ g (shape w)
+  table-none h = ap g (unlisted tag (payload-of w) h ∙ ap (λ (x : ℕ). shape-of-tag x (payload-of w)) i)
 
 -- ---- the kind of a term
 
@@ -96,38 +111,6 @@ op-high o = go (binds o)
     go : (b : Bool) → pick b kind-binder kind-node ≤ kind-binder
     go true = omega arith
     go false = omega arith
-
--- ---- the number of children
-
-leaf-kind : (t : Term) → leafKind t < kind-sign
-leaf-kind (atom a) = omega arith
-leaf-kind (var n) = omega arith
-leaf-kind (sign n q) = omega arith
-leaf-kind (node o a b) = omega arith
-
-pub children-leaf : (k : ℕ) (s : Shape) → k ≡ kindOf s → k < kind-sign → 0 ≡ childrenOf s
-children-leaf k (leaf t) e l = refl
-children-leaf k (signed n) e l = absurd (omega arith)
-children-leaf k (branch o) e l = let h = op-low o in absurd (omega arith)
-children-leaf k no-term e l = absurd (omega arith)
-
-pub children-sign : (k : ℕ) (s : Shape) → k ≡ kindOf s → k ≡ kind-sign → 1 ≡ childrenOf s
-children-sign k (leaf t) e l = let h = leaf-kind t in absurd (omega arith)
-children-sign k (signed n) e l = refl
-children-sign k (branch o) e l = let h = op-low o in absurd (omega arith)
-children-sign k no-term e l = absurd (omega arith)
-
-pub children-node : (k : ℕ) (s : Shape) → k ≡ kindOf s → kind-sign ≤ k → (k ≡ kind-sign → ⊥) → k < kind-none → 2 ≡ childrenOf s
-children-node k (leaf t) e l n m = let h = leaf-kind t in absurd (omega arith)
-children-node k (signed n) e l i m = absurd (i e)
-children-node k (branch o) e l n m = refl
-children-node k no-term e l n m = absurd (omega arith)
-
-pub children-none : (k : ℕ) (s : Shape) → k ≡ kindOf s → kind-none ≤ k → 3 ≡ childrenOf s
-children-none k (leaf t) e l = let h = leaf-kind t in absurd (omega arith)
-children-none k (signed n) e l = absurd (omega arith)
-children-none k (branch o) e l = let h = op-high o in absurd (omega arith)
-children-none k no-term e l = refl
 
 -- ---- whether it binds
 

@@ -64,6 +64,20 @@ pub const NO_TERM: u32 = 5;
 // The children that a term's word can have.
 pub const MOST_CHILDREN: u32 = 2;
 
+// The table of tags, a digit for each, that of tag 0 last: what a word begins whose payload is 0, and whose payload is another.
+const BARE_KINDS: u64 = 0x4320034430100005;
+
+const KINDS: u64 = 0x5520055550155555;
+
+// The same for the number of children.
+const BARE_CHILDREN: u64 = 0x2210022220000003;
+
+const CHILDREN: u64 = 0x3310033330033333;
+
+const DIGIT_BITS: u32 = 4;
+
+const DIGITS: u64 = 16;
+
 pub fn tag_of(word: u32) -> u32
     ensures { λ r. ⌜ r ≡ tag-of word ⌝ }
 {
@@ -81,53 +95,11 @@ pub fn kind(word: u32) -> u32
     ensures { λ r. ⌜ r ≡ kindOf (shape word) ⌝ }
 {
     let tag = tag_of(word);
-    let variable = tag == TAG_VARIABLE;
-    if variable {
-        return VARIABLE;
-    }
-    let sign = tag == TAG_SIGN;
-    if sign {
-        return SIGN;
-    }
-    let constant = tag == TAG_CONSTANT;
-    if constant {
-        return ATOM;
-    }
-    let text = tag == TAG_TEXT;
-    if text {
-        return ATOM;
-    }
-    let name = tag == TAG_NAME;
-    if name {
-        return ATOM;
-    }
-    // every other tag has payload 0
-    let empty = payload_of(word) == 0;
-    if empty {
-        let pi = tag == TAG_PI;
-        if pi {
-            return BINDER;
+    if tag <= TAG_BIND {
+        if payload_of(word) == 0 {
+            return ((BARE_KINDS >> (tag * DIGIT_BITS)) % DIGITS) as u32;
         }
-        let lam = tag == TAG_LAM;
-        if lam {
-            return BINDER;
-        }
-        let bind = tag == TAG_BIND;
-        if bind {
-            return BINDER;
-        }
-        let none = tag < TAG_PROP;
-        if none {
-            return NO_TERM;
-        }
-        let base = tag <= TAG_PRIN;
-        if base {
-            return ATOM;
-        }
-        let listed = tag <= TAG_BIND;
-        if listed {
-            return NODE;
-        }
+        return ((KINDS >> (tag * DIGIT_BITS)) % DIGITS) as u32;
     }
     NO_TERM
 }
@@ -136,15 +108,12 @@ pub fn kind(word: u32) -> u32
 pub fn children(word: u32) -> u32
     ensures { λ r. ⌜ r ≡ childrenOf (shape word) ⌝ }
 {
-    let k = kind(word);
-    if k < SIGN {
-        return 0;
-    }
-    if k == SIGN {
-        return 1;
-    }
-    if k < NO_TERM {
-        return MOST_CHILDREN;
+    let tag = tag_of(word);
+    if tag <= TAG_BIND {
+        if payload_of(word) == 0 {
+            return ((BARE_CHILDREN >> (tag * DIGIT_BITS)) % DIGITS) as u32;
+        }
+        return ((CHILDREN >> (tag * DIGIT_BITS)) % DIGITS) as u32;
     }
     MOST_CHILDREN + 1
 }

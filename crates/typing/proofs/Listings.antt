@@ -14,11 +14,11 @@ use borrow.Author.Tests.{le-leb, lt-leb, leb-true, le-ltb, lt-ltb}
 use Rattle.logic.specs.Limits.{most-words, most-nesting, most-constants, most-constant-words}
 use Rattle.logic.specs.Refusals.{bad-signature}
 use Rattle.logic.specs.Result.{Result, ok, refused, _>>=_, _>>_, require}
-use Rattle.logic.specs.Term.{Term, KindP, encode, size}
+use Rattle.logic.specs.Term.{Term, P, S, Pi, KindP, encode, size}
 use Rattle.logic.specs.Typing.{Has}
 use Rattle.logic.specs.Scope.{Signature}
-use Rattle.logic.specs.Reading.{Plain}
-use Rattle.logic.specs.Infer.{infer, same, condition}
+use Rattle.logic.specs.Reading.{Plain, read, too-deep}
+use Rattle.logic.specs.Infer.{infer, same, same-term, condition}
 use Rattle.logic.specs.Check.{term-of, Checked}
 use Rattle.logic.proofs.Basics.{clash, no-entry}
 use Rattle.logic.proofs.Words.{encode-size}
@@ -74,6 +74,9 @@ module _ (Σ : List Term) (sig : List ℕ) (at : ℕ) (l : at < length sig) wher
         let d : n ≤ length ws = omega (arith, length-drop (at + 1) sig) in
         at-word ∙ ap (λ (b : Bool). b && passed (constant Σ (take n ws))) (true-both (true-both (le-leb 1 n some-word) (le-leb n most-constant-words not-more)) (le-leb n (length ws) d))
 
+    pub known-type : passed (constant Σ (take n ws)) ≡ true → true ≡ constant-at Σ (drop at sig)
+    known-type e = sym (tests ∙ e)
+
     typed-refused : (m p : ℕ) → typed-term Σ most-words most-nesting (take n ws) ≡ refused m p → passed (constant Σ (take n ws)) ≡ false
     typed-refused m p e = go (term-of most-words most-nesting (take n ws)) e
       where
@@ -113,6 +116,16 @@ module _ (Σ : List Term) (sig : List ℕ) (at : ℕ) (l : at < length sig) wher
         go : (o : Result Term) → typed-term Σ most-words most-nesting (take n ws) ≡ o → Typed words e ≡ answer-of o end → Front o new → passed (constant Σ (take n ws)) ≡ b
         go (ok A) e f′ h = typed-ok A e ∙ sym (f A h (cc))
         go (refused m′ p′) e f′ h = absurd (clash (cc))
+
+-- ---- the types of a permit and of a receipt
+
+pub permit-passes : (Σ : List Term) → passed (constant Σ (encode (Pi S P))) ≡ true
+unfolding encode read too-deep infer size same-term
+permit-passes Σ = refl
+
+pub receipt-passes : (Σ : List Term) → passed (constant Σ (encode (Pi S (Pi S P)))) ≡ true
+unfolding encode read too-deep infer size same-term
+receipt-passes Σ = refl
 
 -- ---- the list
 

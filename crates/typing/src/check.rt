@@ -14,7 +14,7 @@ use rules::derivation::Derivation;
 use rules::derivation::Verdict;
 use rules::front::front_is;
 use words::nesting::Nesting;
-use words::nesting::nested;
+use words::nesting::nested_whole;
 use words::read::Parse;
 use words::read::read_whole;
 ghost use Prim.Native.Nat.{ℕ};
@@ -58,7 +58,7 @@ pub fn check_term(
             place,
         };
     }
-    let nesting = nested(term, 0, deep);
+    let nesting = nested_whole(term, deep);
     if let Nesting::Past(place) = nesting {
         return Derivation::Refused {
             number: NESTING,

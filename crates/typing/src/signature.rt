@@ -6,19 +6,40 @@ use logic::limit::MOST_NESTING;
 use logic::limit::MOST_WORDS;
 use logic::word::PAYLOADS;
 use logic::word::TAG_KIND_P;
+use logic::word::TAG_PI;
+use logic::word::TAG_PROP;
+use logic::word::TAG_STRING;
 use rules::derivation::Derivation;
 use rules::front::front_is;
+use words::part::same;
 ghost use mathlib.Core.Path.{_≡_};
+ghost use mathlib.Core.Bool.{true};
 ghost use mathlib.Core.List.{List};
 ghost use lib.ListN.{drop};
 ghost use Rattle.logic.specs.Term.{Term};
-ghost use Rattle.logic.specs.SignatureList.{signature};
-ghost use Rattle.typing.specs.Check.{Constants-of, constant-at, Listable, Read-as, Readable};
+ghost use Rattle.logic.specs.SignatureList.{signature, constant as constant-type};
+ghost use Rattle.typing.specs.Check.{Constants-of, constant-at, passed, Listable, Read-as, Readable};
 
 // How many constants a signature has that is accepted, or the place of the first bad constant's length word.
 pub enum Listed {
     Accepted { count: usize },
     Bad { place: usize },
+}
+
+// Whether words are those of a permit's type, Pi S P, or of a receipt's, Pi S Pi S P, which pass behind any constants.
+fn common(words: &[u32]) -> bool
+    ensures { λ r. ⌜ ((Σ : List Term) → r ≡ true → passed (constant-type Σ (now (words .entry))) ≡ true) ⌝ }
+{
+    let pi = TAG_PI * PAYLOADS;
+    let string = TAG_STRING * PAYLOADS;
+    let prop = TAG_PROP * PAYLOADS;
+    let permit = [pi, string, prop];
+    let permitted = same(words, &permit);
+    if permitted {
+        return true;
+    }
+    let receipt = [pi, string, pi, string, prop];
+    same(words, &receipt)
 }
 
 // Whether the list goes on at `at` with a length word of 1 to 256 and as many words of a type that passes the check with type KindP.
@@ -36,6 +57,10 @@ fn constant(sig: &[u32], table: &[u32], at: usize, ws: &mut [u32]) -> bool
     let start = at + 1;
     if sig.len() - start < n {
         return false;
+    }
+    let fine = common(&sig[start..start + n]);
+    if fine {
+        return true;
     }
     let typed = check_term(
         sig,

@@ -18,7 +18,7 @@ read : (c : tie.After-enum-told) → Term-in (c .before .before .before .before 
 read c = term-in (c .before .before .before .before .before .before .before .before .before .args .term .now) (c .before .before .read-whole .result) _ (c .before .before .read-whole .ensures) (c .enum-told .given .1)
 
 not-deep : (c : tie.After-enum-told2) → too-deep (c .before .before .before .before .before .before .before .before .before .before .before .before .args .deep) 0 (read (c .before .before .before) .term) ≡ none
-not-deep c = let T = read (c .before .before .before) in fine-depth (c .before .before .nested .result) _ _ _ (c .before .before .nested .ensures (T .term) (is-at (T .is))) (c .enum-told2 .given .1)
+not-deep c = let T = read (c .before .before .before) in fine-depth (c .before .before .nested-whole .result) _ _ _ (c .before .before .nested-whole .ensures (T .term) (T .is)) (c .enum-told2 .given .1)
 
 ready : (c : tie.After-enum-told2) (ws : List ℕ) (Σ : List Term) → Constants-of (c .before .before .before .before .before .before .before .before .before .before .before .before .args .sig .now) (c .before .before .before .before .before .before .before .before .before .before .before .before .args .table .now) Σ → Ready (c .before .before .before .before .before .before .before .before .before .before .before .before .args .sig .now) (c .before .before .before .before .before .before .before .before .before .before .before .before .args .table .now) (c .before .before .before .before .before .before .before .before .before .before .before .before .args .term .now) ws 0 0 0 (c .before .before .before .before .before .before .before .before .before .before .before .before .args .deep) Σ [] (read (c .before .before .before) .term)
 ready c ws Σ C = ready-term (c .before .before .before .before .before .before .before .before .before .before .before .before .args .sig .now) (c .before .before .before .before .before .before .before .before .before .before .before .before .args .table .now) (c .before .before .before .before .before .before .before .before .before .before .before .before .args .term .now) ws (c .before .before .before .before .before .before .before .before .before .before .before .before .args .deep) Σ (read (c .before .before .before) .term) C (read (c .before .before .before) .is) (not-deep c) (c .before .before .before .before .before .before .before .before .before .before .before .before .pre .nesting)
@@ -41,14 +41,14 @@ returns-3 c = let s = c .before .before .before .before .before .before .before 
 enum-told : tie.Need-enum-told
 enum-told c = search needs
 
-nested-requires : tie.Need-nested-requires
-nested-requires c κs = let T = read c in record { term = T .term; here = is-at (T .is) }
+nested-whole-requires : tie.Need-nested-whole-requires
+nested-whole-requires c κs = let T = read c in record { term = T .term; here = is-at (T .is) }
 
 enum-known-nesting : tie.Need-enum-known-nesting
 enum-known-nesting c = search needs
 
 returns-4 : tie.Need-returns-4
-returns-4 c = let s = c .before .before .before .before .before .before .before .before .before .before .before .before .before in let T = read (c .before .before .before .before) in λ Σ C. deep-term Σ (s .args .most) (s .args .deep) (s .args .term .now) (s .args .ws .now) (c .before .before .before .before .before .before .before .before .if1 .left) (c .before .before .before .before .before .before .before .if2 .left) (T .term) (T .read) (c .before .before .before .nested .result) _ _ (c .before .before .before .nested .ensures (T .term) (is-at (T .is))) (c .before .nesting .given .1)
+returns-4 c = let s = c .before .before .before .before .before .before .before .before .before .before .before .before .before in let T = read (c .before .before .before .before) in λ Σ C. deep-term Σ (s .args .most) (s .args .deep) (s .args .term .now) (s .args .ws .now) (c .before .before .before .before .before .before .before .before .if1 .left) (c .before .before .before .before .before .before .before .if2 .left) (T .term) (T .read) (c .before .before .before .nested-whole .result) _ _ (c .before .before .before .nested-whole .ensures (T .term) (T .is)) (c .before .nesting .given .1)
 
 enum-told-2 : tie.Need-enum-told-2
 enum-told-2 c = search needs
@@ -80,7 +80,7 @@ check-term-spec =
     enum-known-whole
     returns-3
     enum-told
-    nested-requires
+    nested-whole-requires
     enum-known-nesting
     returns-4
     enum-told-2

@@ -1,23 +1,29 @@
 use Prim.Native.Nat.{ℕ, _+_, _-_}
-use mathlib.Core.Path.{_≡_, refl, subst}
+use mathlib.Core.Path.{_≡_, refl, sym, ap, subst, _∙_}
 use mathlib.Core.List.{List}
 use lib.ListN.{length, take, drop, getD}
 use Rattle.logic.specs.Limits.{most-words, most-nesting}
 use Rattle.logic.specs.Term.{Term, kindPA}
-use Rattle.typing.specs.Check.{Constants-of, typed-term, Judged}
-use Rattle.typing.proofs.Listings.{no-words, too-many, cut-off, not-typed, typed-kind}
+use Rattle.logic.specs.SignatureList.{constant as constant-type}
+use Rattle.typing.specs.Check.{Constants-of, typed-term, Judged, passed}
+use Rattle.typing.proofs.Listings.{no-words, too-many, known-type, cut-off, not-typed, typed-kind}
 use native.Mathlib.Omega.{arith}
 use borrow.Author.Needs.{needs}
 use Rattle.typing.proofs.signature.constant.Statement.{statement}
 use Rattle.typing.proofs.signature.constant.Tie as tie
 
+-- what is lent of the list is the constant's words
+lent : (sig : List ℕ) (at : ℕ) → take (at + 1 + getD sig at 0 - (at + 1)) (drop (at + 1) sig) ≡ take (getD sig at 0) (drop (at + 1) sig)
+lent sig at =
+    let e : at + 1 + getD sig at 0 - (at + 1) ≡ getD sig at 0 = omega arith in
+    ap (λ (i : ℕ). take i (drop (at + 1) sig)) e
+
 -- what the check of the constant's words tells
-judged : (c : tie.After-check-term) (Σ : List Term) → Constants-of (c .before .before .before .before .before .before .before .before .before .before .args .sig .now) (c .before .before .before .before .before .before .before .before .before .before .args .table .now) Σ
-    → Judged (typed-term Σ most-words most-nesting (take (getD (c .before .before .before .before .before .before .before .before .before .before .args .sig .now) (c .before .before .before .before .before .before .before .before .before .before .args .at) 0) (drop (c .before .before .before .before .before .before .before .before .before .before .args .at + 1) (c .before .before .before .before .before .before .before .before .before .before .args .sig .now)))) (length (take (c .before .before .before .before .before .before .before .before .before .before .args .at + 1 + getD (c .before .before .before .before .before .before .before .before .before .before .args .sig .now) (c .before .before .before .before .before .before .before .before .before .before .args .at) 0 - (c .before .before .before .before .before .before .before .before .before .before .args .at + 1)) (drop (c .before .before .before .before .before .before .before .before .before .before .args .at + 1) (c .before .before .before .before .before .before .before .before .before .before .args .sig .now)))) (c .check-term .last .1 .1 .1 .1 .1 .0) (c .check-term .result)
+judged : (c : tie.After-check-term) (Σ : List Term) → Constants-of (c .before .before .before .before .before .before .before .before .before .before .before .before .before .args .sig .now) (c .before .before .before .before .before .before .before .before .before .before .before .before .before .args .table .now) Σ
+    → Judged (typed-term Σ most-words most-nesting (take (getD (c .before .before .before .before .before .before .before .before .before .before .before .before .before .args .sig .now) (c .before .before .before .before .before .before .before .before .before .before .before .before .before .args .at) 0) (drop (c .before .before .before .before .before .before .before .before .before .before .before .before .before .args .at + 1) (c .before .before .before .before .before .before .before .before .before .before .before .before .before .args .sig .now)))) (length (take (c .before .before .before .before .before .before .before .before .before .before .before .before .before .args .at + 1 + getD (c .before .before .before .before .before .before .before .before .before .before .before .before .before .args .sig .now) (c .before .before .before .before .before .before .before .before .before .before .before .before .before .args .at) 0 - (c .before .before .before .before .before .before .before .before .before .before .before .before .before .args .at + 1)) (drop (c .before .before .before .before .before .before .before .before .before .before .before .before .before .args .at + 1) (c .before .before .before .before .before .before .before .before .before .before .before .before .before .args .sig .now)))) (c .check-term .last .1 .1 .1 .1 .1 .0) (c .check-term .result)
 judged c Σ C =
-    let s = c .before .before .before .before .before .before .before .before .before .before .args in
-    let e : s .at + 1 + getD (s .sig .now) (s .at) 0 - (s .at + 1) ≡ getD (s .sig .now) (s .at) 0 = omega arith in
-    subst (λ (i : ℕ). Judged (typed-term Σ most-words most-nesting (take i (drop (s .at + 1) (s .sig .now)))) (length (take (s .at + 1 + getD (s .sig .now) (s .at) 0 - (s .at + 1)) (drop (s .at + 1) (s .sig .now)))) (c .check-term .last .1 .1 .1 .1 .1 .0) (c .check-term .result)) e (c .check-term .ensures Σ C)
+    let s = c .before .before .before .before .before .before .before .before .before .before .before .before .before .args in
+    subst (λ (l : List ℕ). Judged (typed-term Σ most-words most-nesting l) (length (take (s .at + 1 + getD (s .sig .now) (s .at) 0 - (s .at + 1)) (drop (s .at + 1) (s .sig .now)))) (c .check-term .last .1 .1 .1 .1 .1 .0) (c .check-term .result)) (lent (s .sig .now) (s .at)) (c .check-term .ensures Σ C)
 
 mul-n : tie.Need-mul-n
 mul-n c = search needs
@@ -42,6 +48,30 @@ sub-if3 c = search needs
 
 returns-3 : tie.Need-returns-3
 returns-3 c = let s = c .before .before .before .before .before .before .before in λ Σ C. cut-off Σ (s .args .sig .now) (s .args .at) (s .pre .inside) (c .if3 .taken)
+
+add-common : tie.Need-add-common
+add-common c = search needs
+
+mul-common : tie.Need-mul-common
+mul-common c = search needs
+
+sub-common : tie.Need-sub-common
+sub-common c = search needs
+
+part-common-start : tie.Need-part-common-start
+part-common-start c = search needs
+
+part-common-end : tie.Need-part-common-end
+part-common-end c = search needs
+
+common-requires : tie.Need-common-requires
+common-requires c κs = search needs
+
+returns-4 : tie.Need-returns-4
+returns-4 c =
+    let s = c .before .before .before .before .before .before .before .before .before .before in
+    λ Σ C. known-type Σ (s .args .sig .now) (s .args .at) (s .pre .inside) (c .before .before .before .before .before .if1 .left) (c .before .before .before .before .if2 .left) (c .before .before .before .if3 .left)
+    (ap (λ (l : List ℕ). passed (constant-type Σ l)) (sym (lent (s .args .sig .now) (s .args .at))) ∙ c .before .common .ensures Σ (c .if4 .taken))
 
 add-check-term : tie.Need-add-check-term
 add-check-term c = search needs
@@ -76,18 +106,18 @@ front-is-requires c κs = search needs
 same-length : tie.Need-same-length
 same-length c = search needs
 
-returns-4 : tie.Need-returns-4
-returns-4 c =
-    let s = c .before .before .before .before .before .before .before .before .before .before .before .before .before .before in
-    λ Σ C. not-typed Σ (s .args .sig .now) (s .args .at) (s .pre .inside) (c .before .before .before .before .before .before .before .before .before .if1 .left) (c .before .before .before .before .before .before .before .before .if2 .left) (c .before .before .before .before .before .before .before .if3 .left) _ (c .before .before .before .before .check-term .result) _ _ _ (judged (c .before .before .before .before) Σ C) (c .enum-told .given .1)
+returns-5 : tie.Need-returns-5
+returns-5 c =
+    let s = c .before .before .before .before .before .before .before .before .before .before .before .before .before .before .before .before .before in
+    λ Σ C. not-typed Σ (s .args .sig .now) (s .args .at) (s .pre .inside) (c .before .before .before .before .before .before .before .before .before .before .before .before .if1 .left) (c .before .before .before .before .before .before .before .before .before .before .before .if2 .left) (c .before .before .before .before .before .before .before .before .before .before .if3 .left) _ (c .before .before .before .before .check-term .result) _ _ _ (judged (c .before .before .before .before) Σ C) (c .enum-told .given .1)
 
 same-length-2 : tie.Need-same-length-2
 same-length-2 c = search needs
 
-returns-5 : tie.Need-returns-5
-returns-5 c =
-    let s = c .before .before .before .before .before .before .before .before .before .before .before .before .before .before .before .before .before in
-    λ Σ C. typed-kind Σ (s .args .sig .now) (s .args .at) (s .pre .inside) (c .before .before .before .before .before .before .before .before .before .before .before .before .if1 .left) (c .before .before .before .before .before .before .before .before .before .before .before .if2 .left) (c .before .before .before .before .before .before .before .before .before .before .if3 .left) _ (c .before .before .before .before .before .before .before .check-term .result) _ _ _ (c .front-is .result) (judged (c .before .before .before .before .before .before .before) Σ C) (c .before .before .before .typed .given .1)
+returns-6 : tie.Need-returns-6
+returns-6 c =
+    let s = c .before .before .before .before .before .before .before .before .before .before .before .before .before .before .before .before .before .before .before .before in
+    λ Σ C. typed-kind Σ (s .args .sig .now) (s .args .at) (s .pre .inside) (c .before .before .before .before .before .before .before .before .before .before .before .before .before .before .before .if1 .left) (c .before .before .before .before .before .before .before .before .before .before .before .before .before .before .if2 .left) (c .before .before .before .before .before .before .before .before .before .before .before .before .before .if3 .left) _ (c .before .before .before .before .before .before .before .check-term .result) _ _ _ (c .front-is .result) (judged (c .before .before .before .before .before .before .before) Σ C) (c .before .before .before .typed .given .1)
     (λ A h e. c .front-is .ensures A kindPA h e refl tt)
 
 pub constant-spec : {M : Type 1} → statement M
@@ -102,6 +132,13 @@ constant-spec =
     add-start
     sub-if3
     returns-3
+    add-common
+    mul-common
+    sub-common
+    part-common-start
+    part-common-end
+    common-requires
+    returns-4
     add-check-term
     mul-check-term
     sub-check-term
@@ -113,6 +150,6 @@ constant-spec =
     mul-front-is
     front-is-requires
     same-length
-    returns-4
+    returns-5
     same-length-2
-    returns-5)
+    returns-6)

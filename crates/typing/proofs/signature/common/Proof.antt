@@ -1,0 +1,53 @@
+use Prim.Native.Nat.{ℕ}
+use mathlib.Core.Path.{ap, _∙_}
+use mathlib.Core.List.{List}
+use Rattle.logic.specs.Term.{encode}
+use Rattle.logic.specs.SignatureList.{constant as constant-type}
+use Rattle.typing.specs.Check.{passed}
+use Rattle.typing.proofs.Listings.{permit-passes, receipt-passes}
+use borrow.Author.Needs.{needs}
+use Rattle.typing.proofs.signature.common.Statement.{statement}
+use Rattle.typing.proofs.signature.common.Tie as tie
+
+mul-pi : tie.Need-mul-pi
+mul-pi c = search needs
+
+mul-string : tie.Need-mul-string
+mul-string c = search needs
+
+mul-prop : tie.Need-mul-prop
+mul-prop c = search needs
+
+slice-aggregate-same : tie.Need-slice-aggregate-same
+slice-aggregate-same c = search needs
+
+same-requires : tie.Need-same-requires
+same-requires c κs = search needs
+
+returns : tie.Need-returns
+unfolding encode
+returns c = λ Σ e. ap (λ (l : List ℕ). passed (constant-type Σ l)) (c .before .same .ensures .0 (c .if1 .taken)) ∙ permit-passes Σ
+
+slice-aggregate-same-2 : tie.Need-slice-aggregate-same-2
+slice-aggregate-same-2 c = search needs
+
+same-requires-2 : tie.Need-same-requires-2
+same-requires-2 c κs = search needs
+
+returns-2 : tie.Need-returns-2
+unfolding encode
+returns-2 c = λ Σ e. ap (λ (l : List ℕ). passed (constant-type Σ l)) (c .same2 .ensures .0 e) ∙ receipt-passes Σ
+
+pub common-spec : {M : Type 1} → statement M
+common-spec =
+    tie.close
+    (tie.spec
+    mul-pi
+    mul-string
+    mul-prop
+    slice-aggregate-same
+    same-requires
+    returns
+    slice-aggregate-same-2
+    same-requires-2
+    returns-2)

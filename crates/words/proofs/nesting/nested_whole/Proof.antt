@@ -1,0 +1,16 @@
+use Rattle.words.proofs.Nestings.{whole-few, whole-nested}
+use borrow.Author.Needs.{needs}
+use Rattle.words.proofs.nesting.nested_whole.Statement.{statement}
+use Rattle.words.proofs.nesting.nested_whole.Tie as tie
+
+returns : tie.Need-returns
+returns c = whole-few (c .before .before .args .words .now) (c .before .before .args .left) (c .if1 .taken)
+
+nested-requires : tie.Need-nested-requires
+nested-requires c κs = search needs
+
+returns-2 : tie.Need-returns-2
+returns-2 c = whole-nested (c .before .before .before .args .words .now) (c .before .before .before .args .left) (c .nested .result) (c .nested .ensures)
+
+pub nested-whole-spec : {M : Type 1} → statement M
+nested-whole-spec = tie.close (tie.spec returns nested-requires returns-2)
