@@ -1,7 +1,7 @@
 // What the rules of a rule list hold and take, before anything is written.
-use crate::format::HEAD;
 use crate::format::HEADER;
 use crate::format::RULE_HEAD;
+use crate::format::STATEMENT_WORDS;
 use crate::search::Unheld;
 use logic::word::SIGN;
 use logic::word::kind;
@@ -84,7 +84,7 @@ pub fn opening_words(rules: &[u32]) -> usize
         let end = start + n;
         let repeated = rule_held(&rules[..at], rules[at], &rules[start..end]);
         if !repeated {
-            total = total + (HEAD + 1) + n;
+            total = total + STATEMENT_WORDS + n;
         }
         at = end;
     }

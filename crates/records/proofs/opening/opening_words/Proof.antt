@@ -65,13 +65,10 @@ rule-held-requires : tie.Need-rule-held-requires Inv-loop μ-loop
 rule-held-requires c κs = c .before .before .before .before .before .loop .inv .1 .whole
 
 add-total : tie.Need-add-total Inv-loop μ-loop
-add-total c = search needs
+add-total c = let b = c .before .before .before .before .before .before .before .loop .inv .1 .few in omega arith
 
 add-total-2 : tie.Need-add-total-2 Inv-loop μ-loop
-add-total-2 c = let b = c .before .before .before .before .before .before .before .loop .inv .1 .few in omega arith
-
-add-total-3 : tie.Need-add-total-3 Inv-loop μ-loop
-add-total-3 c = let w = within (c .before .before .before .before .before .before) in let b = c .before .before .before .before .before .before .before .loop .inv .1 .few in omega arith
+add-total-2 c = let w = within (c .before .before .before .before .before .before) in let b = c .before .before .before .before .before .before .before .loop .inv .1 .few in omega arith
 
 loop-less : tie.Need-loop-less Inv-loop μ-loop
 loop-less c = search needs
@@ -117,7 +114,6 @@ opening-words-spec =
     rule-held-requires
     add-total
     add-total-2
-    add-total-3
     loop-less
     loop-again
     loop-less-2

@@ -1,0 +1,2 @@
+-- What an open answers and leaves.
+pub mod Opened

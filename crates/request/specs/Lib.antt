@@ -1,0 +1,2 @@
+-- What a request is asked, answers and leaves.
+pub mod Requested

@@ -1,0 +1,170 @@
+// Request: a grant and its receipt, where the proof is one of the desk's permission.
+use calls::shared::Ready;
+use calls::shared::prepare;
+use logic::limit::MOST_NESTING;
+use logic::limit::MOST_WORDS;
+use logic::refusal::ANOTHER_PROPOSITION;
+use logic::refusal::BAD_NUMBER;
+use logic::refusal::NOT_HELD;
+use logic::refusal::REGISTER_FULL;
+use logic::word::PAYLOADS;
+use logic::word::TAG_APP;
+use logic::word::TAG_CONSTANT;
+use logic::word::TAG_NAME;
+use logic::word::TAG_SAYS;
+use logic::word::TAG_TEXT;
+use records::format::GRANT_WORDS;
+use records::search::Unheld;
+use records::search::first_unheld;
+use records::write::add_grant;
+use rules::derivation::Derivation;
+use rules::derivation::Verdict;
+use typing::check::check_term;
+use words::part::same;
+ghost use mathlib.Core.Path.{_≡_};
+ghost use mathlib.Core.Bool.{_&&_};
+ghost use mathlib.Core.List.{List};
+ghost use lib.Dec.{ltb};
+ghost use Prim.Native.Nat.{ℕ, _<_, _≤_};
+ghost use lib.ListN.{length};
+ghost use Rattle.logic.specs.Limits.{payloads, most-operations};
+ghost use Rattle.logic.specs.Result.{ok};
+ghost use Rattle.logic.specs.Term.{Term, size};
+ghost use Rattle.logic.specs.Infer.{same as sameTerm};
+ghost use Rattle.words.specs.Place.{Is};
+ghost use Rattle.words.specs.Typed.{TypeAt};
+ghost use Rattle.typing.specs.Check.{verdict-of};
+ghost use Rattle.register.specs.Records.{Record, register-records};
+ghost use Rattle.register.specs.Calls.{payload, permission, request-call};
+ghost use Rattle.calls.specs.Shared.{lent-of};
+ghost use Rattle.request.specs.Requested.{Requested, Provable, proved-tests};
+
+// Test 5 of the call's own numbers.
+fn numbers(n: u32, operation: u32, extract: u32, delivery: u32) -> bool
+    ensures { λ r. ⌜ r ≡ (ltb operation n && payload extract && payload delivery) ⌝ }
+{
+    if n <= operation {
+        return false;
+    }
+    if PAYLOADS <= extract {
+        return false;
+    }
+    delivery < PAYLOADS
+}
+
+// Test 13: whether the type of n words at the front of the workspace is Says a0 App C2i sv.
+fn permits(ws: &[u32], n: usize, operation: u32, extract: u32) -> bool
+    requires { ⌜ (n ≤ length (now ws)) × (operation < most-operations) × (extract < payloads) ⌝ }
+    ensures { λ r. ⌜ ((A : Term) → TypeAt (now (ws .entry)) 0 A → n ≡ size A → r ≡ sameTerm A (permission operation extract)) ⌝ }
+{
+    let wanted = [
+        TAG_SAYS * PAYLOADS,
+        TAG_NAME * PAYLOADS,
+        TAG_APP * PAYLOADS,
+        TAG_CONSTANT * PAYLOADS + 2 * operation,
+        TAG_TEXT * PAYLOADS + extract,
+    ];
+    same(&ws[..n], &wanted)
+}
+
+// Tests 13, 14 and 16 of a proof whose type is the first n words of the workspace.
+fn proves(
+    register: &[u32],
+    operation: u32,
+    extract: u32,
+    proof: &[u32],
+    ws: &[u32],
+    n: usize,
+) -> Verdict
+    requires { ⌜ Provable (now register) operation extract (now proof) (now ws) n ⌝ }
+    ensures { λ r. ⌜ ((rs : List Record) → (delivery : ℕ) → (t A : Term) → register-records (now (register .entry)) ≡ ok rs → Is (now (proof .entry)) t → TypeAt (now (ws .entry)) 0 A → n ≡ size A → r ≡ verdict-of (proved-tests rs (now (register .entry)) operation extract delivery (now (proof .entry)) t A)) ⌝ }
+{
+    let wanted = permits(ws, n, operation, extract);
+    if !wanted {
+        return Verdict::Fault {
+            number: ANOTHER_PROPOSITION,
+            place: 0,
+        };
+    }
+    let unheld = first_unheld(register, proof);
+    if let Unheld::At(place) = unheld {
+        return Verdict::Fault {
+            number: NOT_HELD,
+            place,
+        };
+    }
+    let used = register[0] as usize;
+    if register.len() - used < proof.len() + GRANT_WORDS {
+        return Verdict::Fault {
+            number: REGISTER_FULL,
+            place: 0,
+        };
+    }
+    Verdict::Passed
+}
+
+// All tests of a request.
+fn grantable(
+    sig: &[u32],
+    n: u32,
+    register: &[u32],
+    operation: u32,
+    extract: u32,
+    delivery: u32,
+    proof: &[u32],
+    ws: &mut [u32],
+) -> Verdict
+    ensures { λ r. ⌜ r ≡ verdict-of (request-call (lent-of (now (sig .entry)) n (length (now (ws .entry)))) (now (register .entry)) operation extract delivery (now (proof .entry))) ⌝ }
+{
+    let mut table = [0u32; 256];
+    let ready = prepare(sig, n, register, &mut table, ws);
+    match ready {
+        Ready::Fault { number, place } => Verdict::Fault { number, place },
+        Ready::Constants { count } => {
+            let fine = numbers(n, operation, extract, delivery);
+            if !fine {
+                return Verdict::Fault {
+                    number: BAD_NUMBER,
+                    place: 0,
+                };
+            }
+            let typed = check_term(sig, &table[..count], proof, MOST_WORDS, MOST_NESTING, ws);
+            match typed {
+                Derivation::Refused { number, place } => Verdict::Fault { number, place },
+                Derivation::Typed { words, end: _ } => {
+                    proves(register, operation, extract, proof, &ws[..], words)
+                }
+            }
+        }
+    }
+}
+
+// A request that is granted adds its grant and its receipt. Nothing is written before the last test has passed.
+pub fn request(
+    sig: &[u32],
+    n: u32,
+    register: &mut [u32],
+    operation: u32,
+    extract: u32,
+    delivery: u32,
+    proof: &[u32],
+    ws: &mut [u32],
+) -> Verdict
+    ensures { λ r. ⌜ Requested (request-call (lent-of (now (sig .entry)) n (length (now (ws .entry)))) (now (register .entry)) operation extract delivery (now (proof .entry))) (now (register .entry)) operation extract delivery (now (proof .entry)) (now (register .exit)) r ⌝ }
+{
+    let tested = grantable(
+        sig,
+        n,
+        &register[..],
+        operation,
+        extract,
+        delivery,
+        proof,
+        ws,
+    );
+    let Verdict::Passed = tested else {
+        return tested;
+    };
+    add_grant(register, operation, extract, delivery, proof);
+    Verdict::Passed
+}

@@ -1,0 +1,2 @@
+-- What a say is asked, answers and leaves.
+pub mod Said

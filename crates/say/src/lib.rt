@@ -1,0 +1,117 @@
+// Say: the statement of a principal, added unless it is held.
+use calls::shared::Ready;
+use calls::shared::prepare;
+use logic::refusal::BAD_NUMBER;
+use logic::refusal::DESK_SAYS;
+use logic::refusal::NOT_HELD;
+use logic::refusal::REGISTER_FULL;
+use logic::word::PAYLOADS;
+use records::format::DESK;
+use records::format::SAY;
+use records::format::STATEMENT_WORDS;
+use records::search::Unheld;
+use records::search::first_unheld;
+use records::search::is_held;
+use records::write::add_statement;
+use rules::derivation::Verdict;
+use typing::check::check_statement;
+ghost use mathlib.Core.Path.{_≡_};
+ghost use mathlib.Core.List.{List};
+ghost use Prim.Native.Nat.{ℕ};
+ghost use lib.ListN.{length};
+ghost use Rattle.logic.specs.Result.{ok};
+ghost use Rattle.logic.specs.Term.{Term};
+ghost use Rattle.words.specs.Place.{Is};
+ghost use Rattle.register.specs.Records.{Record, register-records};
+ghost use Rattle.register.specs.Calls.{say-call};
+ghost use Rattle.calls.specs.Shared.{lent-of};
+ghost use Rattle.say.specs.Said.{said-of, Says-so, Stated, stated-tests};
+
+// What a say answers: it added a record, or the statement was held, or a test refused.
+pub enum Said {
+    Added,
+    Held,
+    Fault { number: u32, place: usize },
+}
+
+// Tests 14 and 16, and whether the statement is held, of a proposition that passed the others.
+fn addable(register: &[u32], principal: u32, proposition: &[u32]) -> Said
+    requires { ⌜ Stated (now register) (now proposition) ⌝ }
+    ensures { λ r. ⌜ ((rs : List Record) → (q : Term) → register-records (now (register .entry)) ≡ ok rs → Is (now (proposition .entry)) q → r ≡ said-of (stated-tests rs (now (register .entry)) principal (now (proposition .entry)) q)) ⌝ }
+{
+    let unheld = first_unheld(register, proposition);
+    if let Unheld::At(place) = unheld {
+        return Said::Fault {
+            number: NOT_HELD,
+            place,
+        };
+    }
+    let repeated = is_held(register, principal, proposition);
+    if repeated {
+        return Said::Held;
+    }
+    let used = register[0] as usize;
+    if register.len() - used < proposition.len() + STATEMENT_WORDS {
+        return Said::Fault {
+            number: REGISTER_FULL,
+            place: 0,
+        };
+    }
+    Said::Added
+}
+
+// All tests of a say.
+fn sayable(
+    sig: &[u32],
+    n: u32,
+    register: &[u32],
+    principal: u32,
+    proposition: &[u32],
+    ws: &mut [u32],
+) -> Said
+    ensures { λ r. ⌜ r ≡ said-of (say-call (lent-of (now (sig .entry)) n (length (now (ws .entry)))) (now (register .entry)) principal (now (proposition .entry))) ⌝ }
+{
+    let mut table = [0u32; 256];
+    let ready = prepare(sig, n, register, &mut table, ws);
+    match ready {
+        Ready::Fault { number, place } => Said::Fault { number, place },
+        Ready::Constants { count } => {
+            if PAYLOADS <= principal {
+                return Said::Fault {
+                    number: BAD_NUMBER,
+                    place: 0,
+                };
+            }
+            if principal == DESK {
+                return Said::Fault {
+                    number: DESK_SAYS,
+                    place: 0,
+                };
+            }
+            let stated = check_statement(sig, &table[..count], proposition, ws);
+            match stated {
+                Verdict::Fault { number, place } => Said::Fault { number, place },
+                Verdict::Passed => addable(register, principal, proposition),
+            }
+        }
+    }
+}
+
+// A say that succeeds adds its statement unless it is held. Nothing is written before the last test has passed.
+pub fn say(
+    sig: &[u32],
+    n: u32,
+    register: &mut [u32],
+    principal: u32,
+    proposition: &[u32],
+    ws: &mut [u32],
+) -> Said
+    ensures { λ r. ⌜ Says-so (say-call (lent-of (now (sig .entry)) n (length (now (ws .entry)))) (now (register .entry)) principal (now (proposition .entry))) (now (register .entry)) principal (now (proposition .entry)) (now (register .exit)) r ⌝ }
+{
+    let tested = sayable(sig, n, &register[..], principal, proposition, ws);
+    let Said::Added = tested else {
+        return tested;
+    };
+    add_statement(register, SAY, principal, proposition);
+    Said::Added
+}
