@@ -60,7 +60,7 @@ module _ (n i v u : ℕ) where
 
 permission-in-range : (i v : ℕ) → i < most-operations → v < payloads → InRange (permission i v)
 unfolding InRange
-permission-in-range i v a b = (omega arith, omega arith, b)
+permission-in-range i v a b = (omega arith, (omega arith, b))
 
 pub permission-found : (ws words : List ℕ) (n i v : ℕ) (r : Bool) → i < most-operations → v < payloads → words ≡ encode (permission i v) → (r ≡ true → take n ws ≡ words) × (take n ws ≡ words → r ≡ true) → (A : Term) → TypeAt ws 0 A → n ≡ size A → r ≡ same A (permission i v)
 permission-found ws words n i v r a b w f A T e =
@@ -142,12 +142,12 @@ module _ (l : Lent) (reg table p : List ℕ) (i v u : ℕ) (r : Ready) (P : Prep
 -- ---- what a request leaves
 
 module _ (l : Lent) (reg p : List ℕ) (i v u : ℕ) (r : Verdict) (e : r ≡ verdict-of (request-call l reg i v u p)) where
-  pub request-refused : (r ≡ Passed → ⊥) → Requested (request-call l reg i v u p) reg i v u p reg r
-  request-refused n = record { answer = e; register = go (request-call l reg i v u p) e }
+  pub request-refused : (m place : ℕ) → r ≡ Fault m place → Requested (request-call l reg i v u p) reg i v u p reg r
+  request-refused m place q = record { answer = e; register = go (request-call l reg i v u p) e }
     where
       go : (o : Result (Unit {0})) → r ≡ verdict-of o → reg ≡ after-request o reg i v u p
-      go (ok x) f = absurd (n f)
-      go (refused m place) f = refl
+      go (ok x) f = absurd (clash (cc))
+      go (refused m′ place′) f = refl
 
   module _ (q : r ≡ Passed) where
     granted : request-call l reg i v u p ≡ ok tt

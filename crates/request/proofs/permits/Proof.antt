@@ -1,3 +1,7 @@
+use mathlib.Core.Path.{refl, sym}
+use lib.Seq.{length-take-le}
+use Rattle.logic.specs.Term.{encode}
+use Rattle.request.proofs.Grants.{permission-found}
 use native.Mathlib.Omega.{arith}
 use borrow.Author.Needs.{needs}
 use Rattle.request.proofs.permits.Statement.{statement}
@@ -31,7 +35,7 @@ add-t13 : tie.Need-add-t13
 add-t13 c = search needs
 
 slice-aggregate-same : tie.Need-slice-aggregate-same
-slice-aggregate-same c = search needs
+slice-aggregate-same c = let s = c .before .before in sym (length-take-le (s .args .n) (s .args .ws .now) (s .pre .0))
 
 slice-aggregate-same-2 : tie.Need-slice-aggregate-same-2
 slice-aggregate-same-2 c = search needs
@@ -40,7 +44,8 @@ same-requires : tie.Need-same-requires
 same-requires c κs = search needs
 
 returns : tie.Need-returns
-returns c = search needs
+unfolding encode
+returns c = let s = c .before .before .before .before in permission-found (s .args .ws .now) _ (s .args .n) (s .args .operation) (s .args .extract) (c .same .result) (s .pre .1) (s .pre .2) refl (c .same .ensures)
 
 pub permits-spec : {M : Type 1} → statement M
 permits-spec =
