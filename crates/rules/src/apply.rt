@@ -43,6 +43,7 @@ pub fn apply(
         };
     }
     let filler = &proof[next..end];
+    // most types are short: the large buffer is cleared only for one that the small one has no room for
     let mut small = [0u32; SMALL];
     let short = fill_into(&ws[..], body, 0, filler, &mut small, 0);
     if let Filled::Done {

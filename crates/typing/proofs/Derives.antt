@@ -275,6 +275,9 @@ module _ (Σ Γ : List Term) (at : ℕ) (o : Op) (a b : Term) where
 abbrev pub Derives : (sig table proof old : List ℕ) → (floor used at left : ℕ) → (new : List ℕ) → Derivation → Type 0
 Derives sig table proof old floor used at left new r = (Σ Γ : List Term) → (t : Term) → Ready sig table proof old floor used at left Σ Γ t → Derived (infer Σ Γ at t) (at + size t) used old new r
 
+pub carried : {sig table proof old : List ℕ} {floor used at left : ℕ} {new new′ : List ℕ} {r r′ : Derivation} → new′ ≡ new → r′ ≡ r → Derives sig table proof old floor used at left new r → Derives sig table proof old floor used at left new′ r′
+carried {sig} {table} {proof} {old} {floor} {used} {at} {left} e q d = subst₂ (Derives sig table proof old floor used at left) (sym e) (sym q) d
+
 module _ {sig table proof ws : List ℕ} {floor used at left : ℕ} {Σ Γ : List Term} {o : Op} {a b : Term} (R : Ready sig table proof ws floor used at left Σ Γ (node o a b)) where
   pub first-ready : Ready sig table proof ws floor used (at + 1) (left - 1) Σ Γ a
   unfolding depth

@@ -50,7 +50,13 @@ pub fn derive(
         };
         return sign(proof, ws, at, words, end);
     }
-    let first = derive(sig, table, proof, ws, floor, used, at + 1, left - 1);
+    // most first children are atoms, which need no call of their own
+    let head = proof[at + 1];
+    let first = if kind(head) == ATOM {
+        atom(sig, table, ws, head, at + 1)
+    } else {
+        derive(sig, table, proof, ws, floor, used, at + 1, left - 1)
+    };
     let Derivation::Typed {
         words: n,
         end: next,

@@ -2,7 +2,8 @@
 use borrow.Author.Needs.{needs}
 use native.Mathlib.Omega.{arith}
 use Prim.Native.Nat.{ℕ, _+_, _-_, _≤_, _<_}
-use mathlib.Core.Path.{_≡_, _∙_}
+use mathlib.Core.Path.{_≡_, ap, _∙_}
+use mathlib.Core.Logic.{⊎-elim}
 use mathlib.Core.List.{List, []}
 use lib.ListN.{length}
 use borrow.Fn.Kinds.{In}
@@ -12,15 +13,15 @@ use Rattle.logic.specs.Term.{Op, Term, node, size}
 use Rattle.logic.specs.Infer.{infer}
 use Rattle.logic.proofs.Searches.{depth-pos}
 use Rattle.words.specs.Place.{At}
-use Rattle.words.proofs.Places.{at-kind, at-end, size-pos}
+use Rattle.words.proofs.Places.{at-kind, at-end, at-left, size-pos}
 use Rattle.logic.proofs.Shapes.{headKind}
 use Rattle.rules.specs.Rule.{within}
 use Rattle.rules.specs.Form.{level-words}
 use Rattle.typing.specs.Derive.{Ready, Derived}
 use Rattle.rules.specs.declared.derivation.Derivation.{Derivation}
 use Rattle.rules.specs.declared.derivation.Derivation.the-variants.{Refused}
-use Rattle.typing.proofs.Tails.{rest-of, whole-of, rest-length}
-use Rattle.typing.proofs.Derives.{Between, between, Inside, inside, signed-in, sign-derived, sign-refused, sign-ready, first-ready, two-deep, second-ready, level, atom-derived, variable-derived, first-refusal, test-refusal, second-refusal, formable, forms-here, node-derived, NodeAt, node-case, SignAt, sign-case}
+use Rattle.typing.proofs.Tails.{rest-of, whole-of, rest-length, whole-length}
+use Rattle.typing.proofs.Derives.{Derives, carried, Between, between, Inside, inside, signed-in, sign-derived, sign-refused, sign-ready, first-ready, two-deep, second-ready, level, atom-derived, variable-derived, first-refusal, test-refusal, second-refusal, formable, forms-here, node-derived, NodeAt, node-case, SignAt, sign-case}
 use Rattle.typing.proofs.derive.derive.Reads as derive
 use Rattle.typing.proofs.derive.derive.Kinds as kinds
 use Rattle.typing.proofs.derive.+derive.Lts-derive as lts
@@ -83,26 +84,49 @@ NodeHere t s = NodeAt (s .args .sig .now) (s .args .table .now) (s .args .proof 
 node-at : (t : ℕ) (c : lts.Else3 (calls t) (given t) derive.Post) → NodeHere t (c .before .before .before .before .before .before .before .before .before)
 node-at t c = let p = c .before .before .before .before .before .before .before .before .before .pre .1 in as-node t c (p .Σ) (p .Γ) (p .term) (λ u. NodeHere t (c .before .before .before .before .before .before .before .before .before)) (p .ready) (λ o a b R. record { o = o; a = a; b = b; ready-node = R })
 
+-- the first child starts within the proof
+child-within : (t : ℕ) (c : lts.Else3 (calls t) (given t) derive.Post) → c .before .before .before .before .before .before .before .before .before .args .at + 1 < length (c .before .before .before .before .before .before .before .before .before .args .proof .now)
+child-within t c = let M = node-at t c in let a = at-end (at-left (M .ready-node .here)) in let b = size-pos (M .a) in omega arith
+
+child-known : (t : ℕ) (c : lts.After-kind2 (calls t) (given t) derive.Post) (u : Term) → At (c .before .before .before .before .before .before .before .before .before .before .before .args .proof .now) (c .before .before .before .before .before .before .before .before .before .before .before .args .at + 1) u → c .kind2 .result ≡ headKind u
+child-known t c u h = c .kind2 .ensures ∙ at-kind h
+
+-- the first child is derived, by either way
+first-derives : (t : ℕ) (c : lts.Joined4 (calls t) (given t) derive.Post) → Derives (c .before .before .before .before .before .before .before .before .before .before .before .before .args .sig .now) (c .before .before .before .before .before .before .before .before .before .before .before .before .args .table .now) (c .before .before .before .before .before .before .before .before .before .before .before .before .args .proof .now) (c .before .before .before .before .before .before .before .before .before .before .before .before .args .ws .now) (c .before .before .before .before .before .before .before .before .before .before .before .before .args .floor) (c .before .before .before .before .before .before .before .before .before .before .before .before .args .used) (c .before .before .before .before .before .before .before .before .before .before .before .before .args .at + 1) (c .before .before .before .before .before .before .before .before .before .before .before .before .args .left - 1) (c .if4 .ws) (c .if4 .first)
+first-derives t c = ⊎-elim
+    (λ w. carried (w .5) (w .6) (λ Σ Γ u R. atom-derived (c .before .kind2 .result) _ (w .2 .result) (w .2 .kept .1 .1 .0) (omega (arith, c .before .before .before .before .before .before .before .before .before .before .before .before .pre .1 .room)) u (w .0 .taken) (child-known t (c .before) u (R .here)) R (w .2 .ensures)))
+    (λ w. carried (w .5) (w .6) (w .2 .ensures))
+    (c .if4 .came)
+
+first-length : (t : ℕ) (c : lts.Joined4 (calls t) (given t) derive.Post) → length (c .if4 .ws) ≡ length (c .before .before .before .before .before .before .before .before .before .before .before .before .args .ws .now)
+first-length t c = ⊎-elim (λ w. ap length (w .5) ∙ w .2 .kept .1 .1 .0) (λ w. ap length (w .5) ∙ w .2 .kept .1 .1 .1 .0) (c .if4 .came)
+
 -- the workspace keeps its length
-mid-length : (t : ℕ) (c : lts.After-entered (calls t) (given t) derive.Post) → length (c .before .before .before .before .enter .last .1 .0) ≡ length (c .before .before .before .before .before .before .before .before .before .before .before .before .before .before .before .before .before .before .before .before .before .before .args .ws .now)
-mid-length t c = c .before .before .before .before .enter .kept .1 .0 ∙ c .before .before .before .before .before .before .before .before .before .before .before .derive2 .kept .1 .1 .1 .0
+mid-length : (t : ℕ) (c : lts.After-entered (calls t) (given t) derive.Post) → length (c .before .before .before .before .enter .last .1 .0) ≡ length (c .before .before .before .before .before .before .before .before .before .before .before .before .before .before .before .before .before .before .before .before .before .args .ws .now)
+mid-length t c = c .before .before .before .before .enter .kept .1 .0 ∙ first-length t (c .before .before .before .before .before .before .before .before .before)
 
 module _ (t : ℕ) {Σ Γ : List Term} {o : Op} {a b : Term} where
   -- the first child has its type
-  first-typed : (c : lts.After-first (calls t) (given t) derive.Post) → Here t (c .before .before .before .before .before .before .before .before .before .before .before .before .before .before .before) Σ Γ (node o a b) → Between (c .before .before .before .before .before .before .before .before .before .before .before .before .before .before .before .args .proof .now) (c .before .before .before .before .before .before .before .before .before .before .before .before .before .before .before .args .ws .now) (c .before .before .before .before .derive2 .last .1 .1 .1 .0) (c .before .before .before .before .before .before .before .before .before .before .before .before .before .before .before .args .used) (c .before .before .before .before .before .before .before .before .before .before .before .before .before .before .before .args .at) (c .first .given .0 .1 .0) (c .first .given .0 .0) Σ Γ o a
-  first-typed c R = between R _ (c .before .before .before .before .derive2 .result) _ _ (c .before .before .before .before .derive2 .ensures) (c .first .given .1)
+  first-typed : (c : lts.After-first (calls t) (given t) derive.Post) → Here t (c .before .before .before .before .before .before .before .before .before .before .before .before .before .before) Σ Γ (node o a b) → Between (c .before .before .before .before .before .before .before .before .before .before .before .before .before .before .args .proof .now) (c .before .before .before .before .before .before .before .before .before .before .before .before .before .before .args .ws .now) (c .before .before .if4 .ws) (c .before .before .before .before .before .before .before .before .before .before .before .before .before .before .args .used) (c .before .before .before .before .before .before .before .before .before .before .before .before .before .before .args .at) (c .first .given .0 .1 .0) (c .first .given .0 .0) Σ Γ o a
+  first-typed c R = between R _ (c .before .before .if4 .first) _ _ (first-derives t (c .before .before)) (c .first .given .1)
 
   -- the test on it passed
-  test-passed : (c : lts.After-entered (calls t) (given t) derive.Post) (R : Here t (c .before .before .before .before .before .before .before .before .before .before .before .before .before .before .before .before .before .before .before .before .before .before) Σ Γ (node o a b)) → Inside (c .before .before .before .before .before .before .before .before .before .before .before .derive2 .last .1 .1 .1 .0) (c .before .before .before .before .enter .last .1 .0) (c .before .before .before .before .before .before .before .before .before .before .before .before .before .before .before .before .before .before .before .before .before .before .args .used) (c .before .before .before .before .before .before .before .before .before .before .before .before .before .before .before .before .before .before .before .before .before .before .args .at) (c .before .before .before .before .before .before .before .first .given .0 .0) (c .entered .given .0 .0) (c .entered .given .0 .1 .0) o a (first-typed (c .before .before .before .before .before .before .before) R .type)
+  test-passed : (c : lts.After-entered (calls t) (given t) derive.Post) (R : Here t (c .before .before .before .before .before .before .before .before .before .before .before .before .before .before .before .before .before .before .before .before .before) Σ Γ (node o a b)) → Inside (c .before .before .before .before .before .before .before .before .before .if4 .ws) (c .before .before .before .before .enter .last .1 .0) (c .before .before .before .before .before .before .before .before .before .before .before .before .before .before .before .before .before .before .before .before .before .args .used) (c .before .before .before .before .before .before .before .before .before .before .before .before .before .before .before .before .before .before .before .before .before .args .at) (c .before .before .before .before .before .before .before .first .given .0 .0) (c .entered .given .0 .0) (c .entered .given .0 .1 .0) o a (first-typed (c .before .before .before .before .before .before .before) R .type)
   test-passed c R =
       let B = first-typed (c .before .before .before .before .before .before .before) R in
       inside o _ a (B .type) _ _ _ _ (c .before .before .before .before .enter .result) _ _ (c .before .before .before .before .enter .ensures o a (B .type) (B .enters)) (c .entered .given .1)
 
-  level-kept : (c : lts.After-entered (calls t) (given t) derive.Post) → Here t (c .before .before .before .before .before .before .before .before .before .before .before .before .before .before .before .before .before .before .before .before .before .before) Σ Γ (node o a b) → c .entered .given .0 .0 + c .entered .given .0 .1 .0 ≤ c .before .before .before .before .before .before .before .before .before .before .before .before .before .before .before .before .before .before .before .before .before .before .args .used + level-words
-  level-kept c R = let p = c .before .before .before .before .before .before .before .before .before .before .before .before .before .before .before .before .before .before .before .before .before .before .pre .1 in level R _ _ _ _ _ _ (first-typed (c .before .before .before .before .before .before .before) R) (test-passed c R) (p .below) (mid-length t c) (p .room)
+  level-kept : (c : lts.After-entered (calls t) (given t) derive.Post) → Here t (c .before .before .before .before .before .before .before .before .before .before .before .before .before .before .before .before .before .before .before .before .before) Σ Γ (node o a b) → c .entered .given .0 .0 + c .entered .given .0 .1 .0 ≤ c .before .before .before .before .before .before .before .before .before .before .before .before .before .before .before .before .before .before .before .before .before .args .used + level-words
+  level-kept c R = let p = c .before .before .before .before .before .before .before .before .before .before .before .before .before .before .before .before .before .before .before .before .before .pre .1 in level R _ _ _ _ _ _ (first-typed (c .before .before .before .before .before .before .before) R) (test-passed c R) (p .below) (mid-length t c) (p .room)
 
-  second-ready-here : (c : lts.After-entered (calls t) (given t) derive.Post) (R : Here t (c .before .before .before .before .before .before .before .before .before .before .before .before .before .before .before .before .before .before .before .before .before .before) Σ Γ (node o a b)) → Ready (c .before .before .before .before .before .before .before .before .before .before .before .before .before .before .before .before .before .before .before .before .before .before .args .sig .now) (c .before .before .before .before .before .before .before .before .before .before .before .before .before .before .before .before .before .before .before .before .before .before .args .table .now) (c .before .before .before .before .before .before .before .before .before .before .before .before .before .before .before .before .before .before .before .before .before .before .args .proof .now) (rest-of (c .entered .given .0 .0) (c .before .before .before .before .enter .last .1 .0)) (c .before .before .before .before .before .before .before .before .before .before .before .before .before .before .before .before .before .before .before .before .before .before .args .floor) (c .entered .given .0 .1 .0) (c .before .before .before .before .before .before .before .first .given .0 .1 .0) (c .before .before .before .before .before .before .before .before .before .before .before .before .before .before .before .before .before .before .before .before .before .before .args .left - 1) Σ (within o a (first-typed (c .before .before .before .before .before .before .before) R .type) Γ) b
-  second-ready-here c R = let p = c .before .before .before .before .before .before .before .before .before .before .before .before .before .before .before .before .before .before .before .before .before .before .pre .1 in second-ready R _ _ _ _ _ _ (first-typed (c .before .before .before .before .before .before .before) R) (test-passed c R) (p .below) (mid-length t c) (p .room)
+  second-ready-here : (c : lts.After-entered (calls t) (given t) derive.Post) (R : Here t (c .before .before .before .before .before .before .before .before .before .before .before .before .before .before .before .before .before .before .before .before .before) Σ Γ (node o a b)) → Ready (c .before .before .before .before .before .before .before .before .before .before .before .before .before .before .before .before .before .before .before .before .before .args .sig .now) (c .before .before .before .before .before .before .before .before .before .before .before .before .before .before .before .before .before .before .before .before .before .args .table .now) (c .before .before .before .before .before .before .before .before .before .before .before .before .before .before .before .before .before .before .before .before .before .args .proof .now) (rest-of (c .entered .given .0 .0) (c .before .before .before .before .enter .last .1 .0)) (c .before .before .before .before .before .before .before .before .before .before .before .before .before .before .before .before .before .before .before .before .before .args .floor) (c .entered .given .0 .1 .0) (c .before .before .before .before .before .before .before .first .given .0 .1 .0) (c .before .before .before .before .before .before .before .before .before .before .before .before .before .before .before .before .before .before .before .before .before .args .left - 1) Σ (within o a (first-typed (c .before .before .before .before .before .before .before) R .type) Γ) b
+  second-ready-here c R = let p = c .before .before .before .before .before .before .before .before .before .before .before .before .before .before .before .before .before .before .before .before .before .pre .1 in second-ready R _ _ _ _ _ _ (first-typed (c .before .before .before .before .before .before .before) R) (test-passed c R) (p .below) (mid-length t c) (p .room)
+
+-- and has it again behind the second child
+back : (t : ℕ) (c : lts.After-entered (calls t) (given t) derive.Post) (part : List ℕ) → length part ≡ length (rest-of (c .entered .given .0 .0) (c .before .before .before .before .enter .last .1 .0)) → length (whole-of (c .entered .given .0 .0) (c .before .before .before .before .enter .last .1 .0) part) ≡ length (c .before .before .before .before .before .before .before .before .before .before .before .before .before .before .before .before .before .before .before .before .before .args .ws .now)
+back t c part e =
+    let R = node-at t (c .before .before .before .before .before .before .before .before .before .before .before .before) .ready-node in
+    whole-length (c .entered .given .0 .0) (c .before .before .before .before .enter .last .1 .0) part (omega (arith, level-kept t c R, two-deep R, c .before .before .before .before .before .before .before .before .before .before .before .before .before .before .before .before .before .before .before .before .before .pre .1 .room, mid-length t c)) e ∙ mid-length t c
 
 mul-word : (t : ℕ) → lts.Need-mul-word (calls t) (given t) derive.Post
 mul-word t c = let r = place-within t (c .before .before .before .before) in omega arith
@@ -184,17 +208,35 @@ returns-4 t c =
     λ Σ Γ u R. let S = signed-in u (c .before .before .before .before .before .before .before .before .before .before .before .before .before .before .kind .result) _ (c .before .before .before .before .before .before .before .before .before .derive .result) _ _ (c .before .before .before .before .before .before .before .before .before .before .before .if3 .taken) (kind-known t (c .before .before .before .before .before .before .before .before .before .before .before .before .before .before) u (R .here)) R (c .before .before .before .before .before .before .before .before .before .derive .ensures) (c .before .before .before .before .before .inner .given .1) in
     sign-derived S _ (c .before .before .sign .result) (c .before .before .sign .kept .1 .0) (omega (arith, s .pre .1 .room, c .before .before .before .before .before .before .before .before .before .derive .kept .1 .1 .1 .0)) (c .before .before .sign .ensures (S .a) (S .q) (S .s) (S .signs))
 
+add-head : (t : ℕ) → lts.Need-add-head (calls t) (given t) derive.Post
+add-head t c = let r = place-within t (c .before .before .before .before .before .before .before .before .before) in omega arith
+
+mul-head : (t : ℕ) → lts.Need-mul-head (calls t) (given t) derive.Post
+mul-head t c = let r = child-within t c in omega arith
+
+shared-slice-read-head : (t : ℕ) → lts.Need-shared-slice-read-head (calls t) (given t) derive.Post
+shared-slice-read-head t c = child-within t (c .before)
+
+kind-requires-2 : (t : ℕ) → lts.Need-kind-requires-2 (calls t) (given t) derive.Post
+kind-requires-2 t c κs = search needs
+
+add-atom : (t : ℕ) → lts.Need-add-atom (calls t) (given t) derive.Post
+add-atom t c = let r = place-within t (c .before .before .before .before .before .before .before .before .before .before .before .before .before) in omega arith
+
+atom-requires-2 : (t : ℕ) → lts.Need-atom-requires-2 (calls t) (given t) derive.Post
+atom-requires-2 t c κs = let p = c .before .before .before .before .before .before .before .before .before .before .before .before .before .pre .1 in record { Σ = p .Σ; declared = p .ready .declared; room = omega (arith, p .room); place = omega (arith, p .short, child-within t (c .before .before .before .before)) }
+
 add-derive-2 : (t : ℕ) → lts.Need-add-derive-2 (calls t) (given t) derive.Post
-add-derive-2 t c = let r = place-within t (c .before .before .before .before .before .before .before .before .before .before) in omega arith
+add-derive-2 t c = let r = place-within t (c .before .before .before .before .before .before .before .before .before .before .before .before .before) in omega arith
 
 sub-derive-2 : (t : ℕ) → lts.Need-sub-derive-2 (calls t) (given t) derive.Post
-sub-derive-2 t c = let r = deep t (c .before .before .before .before .before .before .before .before .before .before) in omega arith
+sub-derive-2 t c = let r = deep t (c .before .before .before .before .before .before .before .before .before .before .before .before .before) in omega arith
 
 derive-requires-2 : (t : ℕ) → lts.Need-derive-requires-2 (calls t) (given t) derive.Post
 derive-requires-2 t c κs =
-    let s = c .before .before .before .before .before .before .before .before .before .before in
+    let s = c .before .before .before .before .before .before .before .before .before .before .before .before .before in
     let p = s .pre .1 in
-    let M = node-at t (c .before) in
+    let M = node-at t (c .before .before .before .before) in
     let d = deep t s in
     (omega arith, record { Σ = p .Σ; Γ = p .Γ; term = M .a; ready = first-ready (M .ready-node); short = p .short; below = p .below; room = omega (arith, p .room) })
 
@@ -205,20 +247,20 @@ enum-told-2 : (t : ℕ) → lts.Need-enum-told-2 (calls t) (given t) derive.Post
 enum-told-2 t c = search needs
 
 same-length-5 : (t : ℕ) → lts.Need-same-length-5 (calls t) (given t) derive.Post
-same-length-5 t c = search needs
+same-length-5 t c = first-length t (c .before .before)
 
 returns-5 : (t : ℕ) → lts.Need-returns-5 (calls t) (given t) derive.Post
 returns-5 t c =
-    λ Σ Γ u R. as-node t (c .before .before .before .before .before .before) Σ Γ u (Gives t (c .before .before .before .before .before .before .before .before .before .before .before .before .before .before .before) Σ Γ (c .before .before .before .before .derive2 .last .1 .1 .1 .0) (c .before .before .before .before .derive2 .result)) R (λ o a b R. first-refusal _ (c .before .before .before .before .derive2 .result) _ _ R (c .before .before .before .before .derive2 .ensures) (c .enum-told2 .given .1))
+    λ Σ Γ u R. as-node t (c .before .before .before .before .before) Σ Γ u (Gives t (c .before .before .before .before .before .before .before .before .before .before .before .before .before .before) Σ Γ (c .before .before .if4 .ws) (c .before .before .if4 .first)) R (λ o a b R. first-refusal _ (c .before .before .if4 .first) _ _ R (first-derives t (c .before .before)) (c .enum-told2 .given .1))
 
 enter-requires : (t : ℕ) → lts.Need-enter-requires (calls t) (given t) derive.Post
 enter-requires t c κs =
-    let s = c .before .before .before .before .before .before .before .before .before .before .before .before .before .before .before .before .before in
+    let s = c .before .before .before .before .before .before .before .before .before .before .before .before .before .before .before .before in
     let p = s .pre .1 in
-    let M = node-at t (c .before .before .before .before .before .before .before .before) in
+    let M = node-at t (c .before .before .before .before .before .before .before) in
     let B = first-typed t (c .before .before) (M .ready-node) in
     let d = two-deep (M .ready-node) in
-    record { o = M .o; a = M .a; A = B .type; enters = B .enters; small = omega (arith, B .enters .type-words, B .small); short = p .short; room = omega (arith, p .room, d, c .before .before .before .before .before .before .derive2 .kept .1 .1 .1 .0) }
+    record { o = M .o; a = M .a; A = B .type; enters = B .enters; small = omega (arith, B .enters .type-words, B .small); short = p .short; room = omega (arith, p .room, d, first-length t (c .before .before .before .before)) }
 
 enum-known-entered : (t : ℕ) → lts.Need-enum-known-entered (calls t) (given t) derive.Post
 enum-known-entered t c = search needs
@@ -227,42 +269,42 @@ enum-told-3 : (t : ℕ) → lts.Need-enum-told-3 (calls t) (given t) derive.Post
 enum-told-3 t c = search needs
 
 same-length-6 : (t : ℕ) → lts.Need-same-length-6 (calls t) (given t) derive.Post
-same-length-6 t c = search needs
+same-length-6 t c = c .before .before .before .before .enter .kept .1 .0 ∙ first-length t (c .before .before .before .before .before .before .before .before .before)
 
 returns-6 : (t : ℕ) → lts.Need-returns-6 (calls t) (given t) derive.Post
 returns-6 t c =
-    λ Σ Γ u R. as-node t (c .before .before .before .before .before .before .before .before .before .before .before .before .before) Σ Γ u (Gives t (c .before .before .before .before .before .before .before .before .before .before .before .before .before .before .before .before .before .before .before .before .before .before) Σ Γ (c .before .before .before .before .enter .last .1 .0) (Refused condition-fails (c .before .before .before .before .before .before .before .before .before .before .before .before .before .before .before .before .before .before .before .before .before .before .args .at))) R (λ o a b R. let B = first-typed t (c .before .before .before .before .before .before .before) R in
+    λ Σ Γ u R. as-node t (c .before .before .before .before .before .before .before .before .before .before .before .before) Σ Γ u (Gives t (c .before .before .before .before .before .before .before .before .before .before .before .before .before .before .before .before .before .before .before .before .before) Σ Γ (c .before .before .before .before .enter .last .1 .0) (Refused condition-fails (c .before .before .before .before .before .before .before .before .before .before .before .before .before .before .before .before .before .before .before .before .before .args .at))) R (λ o a b R. let B = first-typed t (c .before .before .before .before .before .before .before) R in
     test-refusal _ _ _ _ R B (c .before .before .before .before .enter .result) (c .before .before .before .before .enter .ensures o a (B .type) (B .enters)) (c .enum-told3 .given .1))
 
 mul-derive : (t : ℕ) → lts.Need-mul-derive (calls t) (given t) derive.Post
 mul-derive t c =
-    let s = c .before .before .before .before .before .before .before .before .before .before .before .before .before .before .before .before .before .before .before .before .before .before .before in
-    let M = node-at t (c .before .before .before .before .before .before .before .before .before .before .before .before .before .before) in
+    let s = c .before .before .before .before .before .before .before .before .before .before .before .before .before .before .before .before .before .before .before .before .before .before in
+    let M = node-at t (c .before .before .before .before .before .before .before .before .before .before .before .before .before) in
     omega (arith, level-kept t (c .before) (M .ready-node), two-deep (M .ready-node), s .pre .1 .room, mid-length t (c .before), s .good .1 .1 .1 .0)
 
 sub-derive-3 : (t : ℕ) → lts.Need-sub-derive-3 (calls t) (given t) derive.Post
 sub-derive-3 t c =
-    let s = c .before .before .before .before .before .before .before .before .before .before .before .before .before .before .before .before .before .before .before .before .before .before .before in
-    let M = node-at t (c .before .before .before .before .before .before .before .before .before .before .before .before .before .before) in
+    let s = c .before .before .before .before .before .before .before .before .before .before .before .before .before .before .before .before .before .before .before .before .before .before in
+    let M = node-at t (c .before .before .before .before .before .before .before .before .before .before .before .before .before) in
     omega (arith, level-kept t (c .before) (M .ready-node), two-deep (M .ready-node), s .pre .1 .room, mid-length t (c .before))
 
 part-derive-start : (t : ℕ) → lts.Need-part-derive-start (calls t) (given t) derive.Post
 part-derive-start t c =
-    let s = c .before .before .before .before .before .before .before .before .before .before .before .before .before .before .before .before .before .before .before .before .before .before .before in
-    let M = node-at t (c .before .before .before .before .before .before .before .before .before .before .before .before .before .before) in
+    let s = c .before .before .before .before .before .before .before .before .before .before .before .before .before .before .before .before .before .before .before .before .before .before in
+    let M = node-at t (c .before .before .before .before .before .before .before .before .before .before .before .before .before) in
     omega (arith, level-kept t (c .before) (M .ready-node), two-deep (M .ready-node), s .pre .1 .room, mid-length t (c .before))
 
 part-derive-end : (t : ℕ) → lts.Need-part-derive-end (calls t) (given t) derive.Post
 part-derive-end t c = search needs
 
 sub-derive-4 : (t : ℕ) → lts.Need-sub-derive-4 (calls t) (given t) derive.Post
-sub-derive-4 t c = let r = deep t (c .before .before .before .before .before .before .before .before .before .before .before .before .before .before .before .before .before .before .before .before .before .before .before .before) in omega arith
+sub-derive-4 t c = let r = deep t (c .before .before .before .before .before .before .before .before .before .before .before .before .before .before .before .before .before .before .before .before .before .before .before) in omega arith
 
 derive-requires-3 : (t : ℕ) → lts.Need-derive-requires-3 (calls t) (given t) derive.Post
 derive-requires-3 t c κs =
-    let s = c .before .before .before .before .before .before .before .before .before .before .before .before .before .before .before .before .before .before .before .before .before .before .before .before in
+    let s = c .before .before .before .before .before .before .before .before .before .before .before .before .before .before .before .before .before .before .before .before .before .before .before in
     let p = s .pre .1 in
-    let M = node-at t (c .before .before .before .before .before .before .before .before .before .before .before .before .before .before .before) in
+    let M = node-at t (c .before .before .before .before .before .before .before .before .before .before .before .before .before .before) in
     let R = M .ready-node in
     let I = test-passed t (c .before .before) R in
     (omega (arith, two-deep R, s .pre .0), record { Σ = p .Σ; Γ = _; term = M .b; ready = second-ready-here t (c .before .before) R; short = p .short; below = omega (arith, p .below, I .kept-is); room = omega (arith, p .room, two-deep R, level-kept t (c .before .before) R, mid-length t (c .before .before), rest-length (c .before .before .entered .given .0 .0) (c .before .before .before .before .before .before .enter .last .1 .0)) })
@@ -274,27 +316,27 @@ enum-told-4 : (t : ℕ) → lts.Need-enum-told-4 (calls t) (given t) derive.Post
 enum-told-4 t c = search needs
 
 same-length-7 : (t : ℕ) → lts.Need-same-length-7 (calls t) (given t) derive.Post
-same-length-7 t c = search needs
+same-length-7 t c = back t (c .before .before .before .before .before .before .before) (c .before .before .before .before .derive3 .last .1 .1 .1 .0) (c .before .before .before .before .derive3 .kept .1 .1 .1 .0)
 
 returns-7 : (t : ℕ) → lts.Need-returns-7 (calls t) (given t) derive.Post
 returns-7 t c =
-    let p = c .before .before .before .before .before .before .before .before .before .before .before .before .before .before .before .before .before .before .before .before .before .before .before .before .before .before .before .before .before .pre .1 in
-    λ Σ Γ u R. as-node t (c .before .before .before .before .before .before .before .before .before .before .before .before .before .before .before .before .before .before .before .before) Σ Γ u (Gives t (c .before .before .before .before .before .before .before .before .before .before .before .before .before .before .before .before .before .before .before .before .before .before .before .before .before .before .before .before .before) Σ Γ (whole-of (c .before .before .before .before .before .before .before .entered .given .0 .0) (c .before .before .before .before .before .before .before .before .before .before .before .enter .last .1 .0) (c .before .before .before .before .derive3 .last .1 .1 .1 .0)) (c .before .before .before .before .derive3 .result)) R (λ o a b R. second-refusal R _ _ _ _ _ _ (first-typed t (c .before .before .before .before .before .before .before .before .before .before .before .before .before .before) R) (test-passed t (c .before .before .before .before .before .before .before) R) (p .below) (mid-length t (c .before .before .before .before .before .before .before)) (p .room) _ (c .before .before .before .before .derive3 .result) (c .before .before .before .before .derive3 .kept .1 .1 .1 .0) (c .before .before .before .before .derive3 .ensures) _ _ (c .enum-told4 .given .1))
+    let p = c .before .before .before .before .before .before .before .before .before .before .before .before .before .before .before .before .before .before .before .before .before .before .before .before .before .before .before .before .pre .1 in
+    λ Σ Γ u R. as-node t (c .before .before .before .before .before .before .before .before .before .before .before .before .before .before .before .before .before .before .before) Σ Γ u (Gives t (c .before .before .before .before .before .before .before .before .before .before .before .before .before .before .before .before .before .before .before .before .before .before .before .before .before .before .before .before) Σ Γ (whole-of (c .before .before .before .before .before .before .before .entered .given .0 .0) (c .before .before .before .before .before .before .before .before .before .before .before .enter .last .1 .0) (c .before .before .before .before .derive3 .last .1 .1 .1 .0)) (c .before .before .before .before .derive3 .result)) R (λ o a b R. second-refusal R _ _ _ _ _ _ (first-typed t (c .before .before .before .before .before .before .before .before .before .before .before .before .before .before) R) (test-passed t (c .before .before .before .before .before .before .before) R) (p .below) (mid-length t (c .before .before .before .before .before .before .before)) (p .room) _ (c .before .before .before .before .derive3 .result) (c .before .before .before .before .derive3 .kept .1 .1 .1 .0) (c .before .before .before .before .derive3 .ensures) _ _ (c .enum-told4 .given .1))
 
 formed-requires : (t : ℕ) → lts.Need-formed-requires (calls t) (given t) derive.Post
 formed-requires t c κs =
-    let p = c .before .before .before .before .before .before .before .before .before .before .before .before .before .before .before .before .before .before .before .before .before .before .before .before .before .before .before .before .before .before .before .pre .1 in
-    let M = node-at t (c .before .before .before .before .before .before .before .before .before .before .before .before .before .before .before .before .before .before .before .before .before .before) in
+    let p = c .before .before .before .before .before .before .before .before .before .before .before .before .before .before .before .before .before .before .before .before .before .before .before .before .before .before .before .before .before .before .pre .1 in
+    let M = node-at t (c .before .before .before .before .before .before .before .before .before .before .before .before .before .before .before .before .before .before .before .before .before) in
     let R = M .ready-node in
     formable R _ _ _ _ _ _ (first-typed t (c .before .before .before .before .before .before .before .before .before .before .before .before .before .before .before .before) R) (test-passed t (c .before .before .before .before .before .before .before .before .before) R) (p .below) (mid-length t (c .before .before .before .before .before .before .before .before .before)) (p .room) _ (c .before .before .before .before .before .before .derive3 .result) (c .before .before .before .before .before .before .derive3 .kept .1 .1 .1 .0) (c .before .before .before .before .before .before .derive3 .ensures) _ _ (c .before .before .second .given .1) (p .short)
 
 same-length-8 : (t : ℕ) → lts.Need-same-length-8 (calls t) (given t) derive.Post
-same-length-8 t c = search needs
+same-length-8 t c = c .before .before .formed .kept .1 .0 ∙ back t (c .before .before .before .before .before .before .before .before .before .before .before .before) (c .before .before .before .before .before .before .before .before .before .derive3 .last .1 .1 .1 .0) (c .before .before .before .before .before .before .before .before .before .derive3 .kept .1 .1 .1 .0)
 
 returns-8 : (t : ℕ) → lts.Need-returns-8 (calls t) (given t) derive.Post
 returns-8 t c =
-    let p = c .before .before .before .before .before .before .before .before .before .before .before .before .before .before .before .before .before .before .before .before .before .before .before .before .before .before .before .before .before .before .before .before .before .before .pre .1 in
-    λ Σ Γ u R. as-node t (c .before .before .before .before .before .before .before .before .before .before .before .before .before .before .before .before .before .before .before .before .before .before .before .before .before) Σ Γ u (Gives t (c .before .before .before .before .before .before .before .before .before .before .before .before .before .before .before .before .before .before .before .before .before .before .before .before .before .before .before .before .before .before .before .before .before .before) Σ Γ (c .before .before .formed .last .1 .0) (c .before .before .formed .result)) R (λ o a b R.
+    let p = c .before .before .before .before .before .before .before .before .before .before .before .before .before .before .before .before .before .before .before .before .before .before .before .before .before .before .before .before .before .before .before .before .before .pre .1 in
+    λ Σ Γ u R. as-node t (c .before .before .before .before .before .before .before .before .before .before .before .before .before .before .before .before .before .before .before .before .before .before .before .before) Σ Γ u (Gives t (c .before .before .before .before .before .before .before .before .before .before .before .before .before .before .before .before .before .before .before .before .before .before .before .before .before .before .before .before .before .before .before .before .before) Σ Γ (c .before .before .formed .last .1 .0) (c .before .before .formed .result)) R (λ o a b R.
     node-derived R _ _ _ _ _ _ (first-typed t (c .before .before .before .before .before .before .before .before .before .before .before .before .before .before .before .before .before .before .before) R) (test-passed t (c .before .before .before .before .before .before .before .before .before .before .before .before) R) (p .below) (mid-length t (c .before .before .before .before .before .before .before .before .before .before .before .before)) (p .room) _ (c .before .before .before .before .before .before .before .before .before .derive3 .result) (c .before .before .before .before .before .before .before .before .before .derive3 .kept .1 .1 .1 .0) (c .before .before .before .before .before .before .before .before .before .derive3 .ensures) _ _ (c .before .before .before .before .before .second .given .1) _ (c .before .before .formed .result) (c .before .before .formed .kept .1 .0)
     (c .before .before .formed .ensures o a b _ _ (forms-here R _ _ _ _ _ _ (first-typed t (c .before .before .before .before .before .before .before .before .before .before .before .before .before .before .before .before .before .before .before) R) (test-passed t (c .before .before .before .before .before .before .before .before .before .before .before .before) R) (p .below) (mid-length t (c .before .before .before .before .before .before .before .before .before .before .before .before)) (p .room) _ (c .before .before .before .before .before .before .before .before .before .derive3 .result) (c .before .before .before .before .before .before .before .before .before .derive3 .kept .1 .1 .1 .0) (c .before .before .before .before .before .before .before .before .before .derive3 .ensures) _ _ (c .before .before .before .before .before .second .given .1))))
 
@@ -322,6 +364,12 @@ pub +derive-spec : {M : Type 1} → statement M
     (sign-requires t)
     (same-length-4 t)
     (returns-4 t)
+    (add-head t)
+    (mul-head t)
+    (shared-slice-read-head t)
+    (kind-requires-2 t)
+    (add-atom t)
+    (atom-requires-2 t)
     (add-derive-2 t)
     (sub-derive-2 t)
     (derive-requires-2 t)
