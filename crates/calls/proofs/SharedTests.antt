@@ -16,10 +16,11 @@ use Rattle.logic.specs.SignatureList.{at-constant, constant, constants, signatu
 use Rattle.logic.proofs.Basics.{clash}
 use Rattle.logic.proofs.Results.{both-true, true-both}
 use Rattle.rules.specs.Scope.{Declared}
-use Rattle.typing.specs.Check.{Constants-of, Read-as}
-use Rattle.typing.proofs.Accepted.{signature-number, Constants-read}
-use Rattle.typing.specs.declared.signature.Listed.{Listed}
-use Rattle.typing.specs.declared.signature.Listed.the-variants.{Accepted, Bad}
+use Rattle.typing.specs.Check.{Constants-of}
+use Rattle.signature.specs.Listing.{Read-as}
+use Rattle.signature.proofs.Accepted.{signature-number, Constants-read}
+use Rattle.signature.specs.declared.list.Listed.{Listed}
+use Rattle.signature.specs.declared.list.Listed.the-variants.{Accepted, Bad}
 use Rattle.records.specs.Answers.{contentsOf}
 use Rattle.records.specs.declared.walk.Contents.{Contents}
 use Rattle.records.specs.declared.walk.Contents.the-variants.{Broken, Whole}

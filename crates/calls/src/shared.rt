@@ -9,13 +9,13 @@ use logic::refusal::REGISTER_LENGTH;
 use logic::refusal::WORKSPACE_SHORT;
 use records::walk::Contents;
 use records::walk::walk;
-use typing::operations::operations;
-use typing::signature::Listed;
-use typing::signature::read_signature;
+use signature::operations::operations;
+use signature::list::Listed;
+use signature::list::read_signature;
 ghost use mathlib.Core.Path.{_≡_};
 ghost use lib.ListN.{length};
 ghost use Rattle.logic.specs.Limits.{most-constants};
-ghost use Rattle.typing.specs.Check.{Readable};
+ghost use Rattle.signature.specs.Listing.{Readable};
 ghost use Rattle.calls.specs.Answers.{number-of};
 ghost use Rattle.calls.specs.Shared.{lengths-test, lent-of, signed, Signed-as, prepared, Prepared-as, opened, Opened-as};
 

@@ -15,10 +15,11 @@ use Rattle.logic.proofs.Basics.{clash}
 use Rattle.rules.specs.Form.{answer-of}
 use Rattle.rules.specs.declared.derivation.Derivation.{Derivation}
 use Rattle.rules.specs.declared.derivation.Derivation.the-variants.{Typed, Refused}
-use Rattle.typing.specs.Check.{typed-term, Judged, Read-as}
-use Rattle.typing.specs.declared.signature.Listed.{Listed}
-use Rattle.typing.specs.declared.signature.Listed.the-variants.{Accepted, Bad}
-use Rattle.typing.proofs.Accepted.{signature-number, Constants-read}
+use Rattle.typing.specs.Check.{typed-term, Judged}
+use Rattle.signature.specs.Listing.{Read-as}
+use Rattle.signature.specs.declared.list.Listed.{Listed}
+use Rattle.signature.specs.declared.list.Listed.the-variants.{Accepted, Bad}
+use Rattle.signature.proofs.Accepted.{signature-number, Constants-read}
 use Rattle.timed.specs.Timed.{tested, number-of}
 
 module _ (workspace : ℕ) (sig term : List ℕ) where

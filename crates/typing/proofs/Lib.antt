@@ -3,7 +3,4 @@ pub mod Tails
 pub mod Uniform
 pub mod Derives
 pub mod Checks
-pub mod Listings
 pub mod Statements
-pub mod Accepted
-pub mod Permits

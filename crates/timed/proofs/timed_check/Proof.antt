@@ -1,7 +1,7 @@
 use mathlib.Core.Path.{sym}
 use lib.ListN.{length}
 use lib.Seq.{length-take-le}
-use Rattle.typing.proofs.Accepted.{Constants-read, constants-read, count-within}
+use Rattle.signature.proofs.Accepted.{Constants-read, constants-read, count-within}
 use Rattle.timed.proofs.Answers.{short, bad, refused-number, typed-number}
 use native.Mathlib.Omega.{arith}
 use borrow.Author.Needs.{needs}
@@ -10,7 +10,7 @@ use Rattle.timed.proofs.timed_check.Tie as tie
 use Rattle.timed.proofs.timed_check.Reads as reads
 use Rattle.timed.proofs.timed_check.Lts as lts
 use Rattle.typing.proofs.check.check_term.Reads as check-term-reads
-use Rattle.typing.proofs.signature.read_signature.Reads as read-signature-reads
+use Rattle.signature.proofs.list.read_signature.Reads as read-signature-reads
 
 -- the constants that were read
 found : (c : tie.After-listed) → Constants-read (c .before .before .before .before .before .before .before .before .before .before .before .before .args .signature .now) (c .before .before .before .before .before .read-signature .last .1 .0) (c .listed .given .0 .0)

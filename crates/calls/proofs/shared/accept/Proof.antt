@@ -2,15 +2,15 @@ use mathlib.Core.Path.{sym}
 use lib.Seq.{length-take-le}
 use Prim.Native.Nat.{ℕ}
 use Rattle.calls.proofs.SharedTests.{signature-bad, operations-fit, operations-unfit}
-use Rattle.typing.proofs.Accepted.{Constants-read, constants-read, count-within}
+use Rattle.signature.proofs.Accepted.{Constants-read, constants-read, count-within}
 use native.Mathlib.Omega.{arith}
 use borrow.Author.Needs.{needs}
 use Rattle.calls.proofs.shared.accept.Statement.{statement}
 use Rattle.calls.proofs.shared.accept.Tie as tie
 use Rattle.calls.proofs.shared.accept.Reads as reads
 use Rattle.calls.proofs.shared.accept.Lts as lts
-use Rattle.typing.proofs.operations.operations.Reads as operations-reads
-use Rattle.typing.proofs.signature.read_signature.Reads as read-signature-reads
+use Rattle.signature.proofs.operations.operations.Reads as operations-reads
+use Rattle.signature.proofs.list.read_signature.Reads as read-signature-reads
 
 -- the constants that were read
 found : (c : tie.After-listed2) → Constants-read (c .before .before .before .before .before .before .before .before .before .before .before .before .args .sig .now) (c .before .before .before .before .before .before .read-signature .last .1 .0) (c .listed2 .given .0 .0)

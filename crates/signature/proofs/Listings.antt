@@ -29,11 +29,12 @@ use Rattle.words.specs.Typed.{TypeAt}
 use Rattle.rules.specs.Scope.{Declared}
 use Rattle.logic.specs.SignatureList.{at-constant, constant, constants, signature}
 use Rattle.rules.specs.Form.{answer-of, Front}
-use Rattle.typing.specs.Check.{Constants-of, typed-term, Judged, passed, constant-at, Read-as}
+use Rattle.typing.specs.Check.{Constants-of, typed-term, Judged}
+use Rattle.signature.specs.Listing.{passed, constant-at, Read-as}
 use Rattle.typing.proofs.Checks.{and-false, require-false}
 use Rattle.rules.specs.declared.derivation.Derivation.{Derivation}
 use Rattle.rules.specs.declared.derivation.Derivation.the-variants.{Typed, Refused}
-use Rattle.typing.specs.declared.signature.Listed.the-variants.{Accepted, Bad}
+use Rattle.signature.specs.declared.list.Listed.the-variants.{Accepted, Bad}
 use Rattle.logic.proofs.SignatureList.{constant-right}
 
 -- ---- one constant

@@ -12,9 +12,10 @@ use Rattle.logic.specs.Result.{Result, ok, refused, _>>=_, _>>_, require}
 use Rattle.logic.specs.Term.{Term}
 use Rattle.logic.specs.SignatureList.{at-constant, constant, constants, signature}
 use Rattle.logic.proofs.Basics.{clash}
-use Rattle.typing.specs.Check.{Constants-of, Read-as}
-use Rattle.typing.specs.declared.signature.Listed.{Listed}
-use Rattle.typing.specs.declared.signature.Listed.the-variants.{Accepted, Bad}
+use Rattle.typing.specs.Check.{Constants-of}
+use Rattle.signature.specs.Listing.{Read-as}
+use Rattle.signature.specs.declared.list.Listed.{Listed}
+use Rattle.signature.specs.declared.list.Listed.the-variants.{Accepted, Bad}
 
 test-number : (b : Bool) (m at : ℕ) (r : Result (List Term)) {k p : ℕ} → (r ≡ refused k p → k ≡ m) → (require b m at >> r) ≡ refused k p → k ≡ m
 test-number true m at r f e = f e

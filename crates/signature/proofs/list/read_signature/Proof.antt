@@ -3,12 +3,12 @@ use mathlib.Core.Bool.{true}
 use borrow.Author.Tests.{not-true, not-false}
 use mathlib.Core.Path.{_≡_, refl, sym, _∙_}
 use lib.ListN.{length, drop, getD, length-set}
-use Rattle.typing.specs.Check.{constant-at}
-use Rattle.typing.proofs.Listings.{Reading, reading-start, reading-full, reading-bad, reading-done, reading-more, more-inside}
+use Rattle.signature.specs.Listing.{constant-at}
+use Rattle.signature.proofs.Listings.{Reading, reading-start, reading-full, reading-bad, reading-done, reading-more, more-inside}
 use borrow.Author.Needs.{needs}
 use native.Mathlib.Omega.{arith}
-use Rattle.typing.proofs.signature.read_signature.Statement.{statement}
-use Rattle.typing.proofs.signature.read_signature.Tie as tie
+use Rattle.signature.proofs.list.read_signature.Statement.{statement}
+use Rattle.signature.proofs.list.read_signature.Tie as tie
 
 abbrev Inv-loop : tie.InvT-loop
 Inv-loop sig table₀ ws₀ at₀ count₀ table ws at count = Reading sig table at count × (length table ≡ length table₀) × (length ws ≡ length ws₀)

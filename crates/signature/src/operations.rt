@@ -12,7 +12,7 @@ ghost use Rattle.logic.specs.Term.{Term, encode};
 ghost use Rattle.logic.specs.SignatureList.{is-type, operations-test};
 ghost use Rattle.logic.proofs.Words.{InRange};
 ghost use Rattle.rules.specs.Scope.{Declared};
-ghost use Rattle.typing.specs.Check.{Declares};
+ghost use Rattle.signature.specs.Listing.{Declares};
 
 // Whether constant i is there and its type has exactly the words given.
 fn constant_is(sig: &[u32], table: &[u32], i: usize, words: &[u32]) -> bool

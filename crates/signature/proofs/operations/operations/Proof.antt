@@ -10,9 +10,9 @@ use Rattle.logic.specs.Term.{Term, P, S, Pi, encode}
 use Rattle.logic.specs.SignatureList.{permit, receipt-of, is-type, operations}
 use Rattle.logic.proofs.Words.{InRange}
 use Rattle.rules.specs.Scope.{Declared}
-use Rattle.typing.proofs.Permits.{no-operation, too-many-operations, no-permit, no-receipt, all-operations, no-operations, one-operation}
-use Rattle.typing.proofs.operations.operations.Statement.{statement}
-use Rattle.typing.proofs.operations.operations.Tie as tie
+use Rattle.signature.proofs.Permits.{no-operation, too-many-operations, no-permit, no-receipt, all-operations, no-operations, one-operation}
+use Rattle.signature.proofs.operations.operations.Statement.{statement}
+use Rattle.signature.proofs.operations.operations.Tie as tie
 
 abbrev Inv-loop : tie.InvT-loop
 Inv-loop sig table n count pi string prop permit receipt i₀ i = (i ≤ count) × ((Σ : List Term) → Declared sig table Σ → operations Σ i ≡ true)

@@ -7,10 +7,10 @@ use Rattle.logic.specs.Term.{Term}
 use Rattle.words.proofs.Places.{at-end}
 use Rattle.rules.specs.Scope.{Declared}
 use Rattle.rules.proofs.Atoms.{ConstantAt, constant-at}
-use Rattle.typing.proofs.Permits.{no-constant, compared}
+use Rattle.signature.proofs.Permits.{no-constant, compared}
 use borrow.Author.Needs.{needs}
-use Rattle.typing.proofs.operations.constant_is.Statement.{statement}
-use Rattle.typing.proofs.operations.constant_is.Tie as tie
+use Rattle.signature.proofs.operations.constant_is.Statement.{statement}
+use Rattle.signature.proofs.operations.constant_is.Tie as tie
 
 -- where the type stands, by any constants that are declared, and by those that `requires` brought
 here-for : (c : tie.Else1) (Σ : List Term) → Declared (c .before .before .before .before .args .sig .now) (c .before .before .before .before .args .table .now) Σ → ConstantAt (c .before .before .before .before .args .sig .now) (c .before .before .before .before .args .table .now) (c .before .before .before .before .args .i) Σ

@@ -5,12 +5,13 @@ use lib.ListN.{length, take, drop, getD}
 use Rattle.logic.specs.Limits.{most-words, most-nesting}
 use Rattle.logic.specs.Term.{Term, kindPA}
 use Rattle.logic.specs.SignatureList.{constant as constant-type}
-use Rattle.typing.specs.Check.{Constants-of, typed-term, Judged, passed}
-use Rattle.typing.proofs.Listings.{no-words, too-many, known-type, cut-off, not-typed, typed-kind}
+use Rattle.typing.specs.Check.{Constants-of, typed-term, Judged}
+use Rattle.signature.specs.Listing.{passed}
+use Rattle.signature.proofs.Listings.{no-words, too-many, known-type, cut-off, not-typed, typed-kind}
 use native.Mathlib.Omega.{arith}
 use borrow.Author.Needs.{needs}
-use Rattle.typing.proofs.signature.constant.Statement.{statement}
-use Rattle.typing.proofs.signature.constant.Tie as tie
+use Rattle.signature.proofs.list.constant.Statement.{statement}
+use Rattle.signature.proofs.list.constant.Tie as tie
 
 -- what is lent of the list is the constant's words
 lent : (sig : List ℕ) (at : ℕ) → take (at + 1 + getD sig at 0 - (at + 1)) (drop (at + 1) sig) ≡ take (getD sig at 0) (drop (at + 1) sig)

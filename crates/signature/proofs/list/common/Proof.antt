@@ -3,11 +3,11 @@ use mathlib.Core.Path.{ap, _∙_}
 use mathlib.Core.List.{List}
 use Rattle.logic.specs.Term.{encode}
 use Rattle.logic.specs.SignatureList.{constant as constant-type}
-use Rattle.typing.specs.Check.{passed}
-use Rattle.typing.proofs.Listings.{permit-passes, receipt-passes}
+use Rattle.signature.specs.Listing.{passed}
+use Rattle.signature.proofs.Listings.{permit-passes, receipt-passes}
 use borrow.Author.Needs.{needs}
-use Rattle.typing.proofs.signature.common.Statement.{statement}
-use Rattle.typing.proofs.signature.common.Tie as tie
+use Rattle.signature.proofs.list.common.Statement.{statement}
+use Rattle.signature.proofs.list.common.Tie as tie
 
 mul-pi : tie.Need-mul-pi
 mul-pi c = search needs

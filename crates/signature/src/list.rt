@@ -1,5 +1,5 @@
 // The signature list: a length word and a type for each constant.
-use crate::check::check_term;
+use typing::check::check_term;
 use logic::limit::MOST_CONSTANT_WORDS;
 use logic::limit::MOST_CONSTANTS;
 use logic::limit::MOST_NESTING;
@@ -18,7 +18,8 @@ ghost use mathlib.Core.List.{List};
 ghost use lib.ListN.{drop};
 ghost use Rattle.logic.specs.Term.{Term};
 ghost use Rattle.logic.specs.SignatureList.{signature, constant as constant-type};
-ghost use Rattle.typing.specs.Check.{Constants-of, constant-at, passed, Listable, Read-as, Readable};
+ghost use Rattle.typing.specs.Check.{Constants-of};
+ghost use Rattle.signature.specs.Listing.{constant-at, passed, Listable, Read-as, Readable};
 
 // How many constants a signature has that is accepted, or the place of the first bad constant's length word.
 pub enum Listed {

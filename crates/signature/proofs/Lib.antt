@@ -1,0 +1,4 @@
+-- A signature list is read as its definition says.
+pub mod Listings
+pub mod Accepted
+pub mod Permits

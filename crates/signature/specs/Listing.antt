@@ -1,0 +1,47 @@
+-- What the code of the signature list and of its permits and receipts is asked and what it ensures.
+use Prim.Native.Nat.{ℕ, _≤_, _<_}
+use mathlib.Core.Bool.{Bool, true, false, _&&_}
+use mathlib.Core.Path.{_≡_}
+use mathlib.Core.List.{List, [], _∷_}
+use lib.Dec.{leb}
+use lib.ListN.{length, take}
+use Rattle.logic.specs.Limits.{least-workspace, most-constants, most-constant-words}
+use Rattle.logic.specs.Result.{Result, ok, refused}
+use Rattle.logic.specs.Term.{Term}
+use Rattle.logic.specs.SignatureList.{signature, constant}
+use Rattle.rules.specs.Scope.{Declared}
+use Rattle.typing.specs.Check.{Constants-of}
+use Rattle.signature.specs.declared.list.Listed.{Listed}
+use Rattle.signature.specs.declared.list.Listed.the-variants.{Accepted, Bad}
+
+-- a signature list was read: the first words of the table say where the constants' types stand
+abbrev pub Read-as : Result (List Term) → (sig table : List ℕ) → Listed → Type 0
+Read-as (ok Σ) sig table r = (r ≡ Accepted (length Σ)) × Constants-of sig (take (length Σ) table) Σ
+Read-as (refused m p) sig table r = r ≡ Bad p
+
+-- a table for as many constants as there may be, and a workspace that is not short
+pub record Readable (table ws : List ℕ) : Type 0 where
+  pub entries : length table ≡ most-constants
+  pub workspace : least-workspace ≤ length ws
+
+-- whether tests passed
+abbrev pub passed : {X : Type 0} → Result X → Bool
+passed (ok x) = true
+passed (refused m p) = false
+
+-- behind the constants Σ the list goes on with one more
+unfoldable pub constant-at : List Term → List ℕ → Bool
+constant-at Σ [] = false
+constant-at Σ (n ∷ ws) = leb 1 n && leb n most-constant-words && leb n (length ws) && passed (constant Σ (take n ws))
+
+-- there are constants, the workspace is not short, and a word stands at the place `at` of the list
+pub record Listable (sig table ws : List ℕ) (at : ℕ) : Type 0 where
+  pub Σ : List Term
+  pub constants : Constants-of sig table Σ
+  pub workspace : least-workspace ≤ length ws
+  pub inside : at < length sig
+
+-- there are constants whose types stand where the table says
+pub record Declares (sig table : List ℕ) : Type 0 where
+  pub Σ : List Term
+  pub declared : Declared sig table Σ
