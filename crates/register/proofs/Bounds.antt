@@ -1,4 +1,4 @@
--- Every refusal of a call has one of document 01's numbers, at most 17, and a place within what was lent.
+-- Every refusal of a call has one of document 01's numbers, 1 to 17, and a place within what was lent.
 use Prim.Native.Nat.{ℕ, zero, suc, _+_, _-_, _≤_}
 use mathlib.Core.Path.{_≡_, refl, sym, ap, _∙_}
 use mathlib.Core.Bool.{Bool, true, false, _&&_, not}
@@ -27,12 +27,16 @@ use Rattle.logic.proofs.Places.{stands-words}
 use Rattle.register.specs.Records.{Record, header, used, count, records, register-records, held, words-of, statement, say-kind}
 use Rattle.register.specs.Calls.{Lent, View, payload, Holding, length-test, shared, signs-held, fits, check-own, check-call, say-own, say-call, permission, entry, request-own, request-call, at-rule, with-rule, opening, open-own, open-call, read-call}
 
--- a refusal's number is at most 17, and its place at most the bound
+-- one of document 01's refusal numbers
+abbrev pub Number : ℕ → Type 0
+Number m = (1 ≤ m) × (m ≤ past-last-record)
+
+-- where a result is a refusal, it has such a number and a place up to the bound
 pub data Within {X : Type 0} (bound : ℕ) : Result X → Type 0 where
   passed : {x : X} → Within bound (ok x)
-  inside : {m p : ℕ} → m ≤ past-last-record → p ≤ bound → Within bound (refused m p)
+  inside : {m p : ℕ} → Number m → p ≤ bound → Within bound (refused m p)
 
-pub refusal : {X : Type 0} {bound m p : ℕ} {r : Result X} → Within bound r → r ≡ refused m p → (m ≤ past-last-record) × (p ≤ bound)
+pub refusal : {X : Type 0} {bound m p : ℕ} {r : Result X} → Within bound r → r ≡ refused m p → Number m × (p ≤ bound)
 refusal passed e = absurd (clash (cc))
 refusal {m} {p} (inside {m = m′} {p = p′} h k) e = let n : m′ ≡ m = cc in let l : p′ ≡ p = cc in (omega arith, omega arith)
 
@@ -46,20 +50,20 @@ then-within : {X Y : Type 0} {bound : ℕ} (r : Result X) (s : Result Y) → Wit
 then-within (ok x) s h f = f
 then-within (refused m p) s (inside a b) f = inside a b
 
-require-within : {bound : ℕ} (b : Bool) (m p : ℕ) → m ≤ past-last-record → p ≤ bound → Within bound (require b m p)
+require-within : {bound : ℕ} (b : Bool) (m p : ℕ) → Number m → p ≤ bound → Within bound (require b m p)
 require-within true m p h k = passed
 require-within false m p h k = inside h k
 
 -- a test, and what comes behind it where it passes
-tested-within : {Y : Type 0} {bound : ℕ} (b : Bool) (m p : ℕ) (s : Result Y) → m ≤ past-last-record → p ≤ bound → (b ≡ true → Within bound s) → Within bound (require b m p >> s)
+tested-within : {Y : Type 0} {bound : ℕ} (b : Bool) (m p : ℕ) (s : Result Y) → Number m → p ≤ bound → (b ≡ true → Within bound s) → Within bound (require b m p >> s)
 tested-within true m p s h k f = f refl
 tested-within false m p s h k f = inside h k
 
-known-within : {X : Type 0} {bound : ℕ} (m p : ℕ) (o : Option X) → m ≤ past-last-record → p ≤ bound → Within bound (known m p o)
+known-within : {X : Type 0} {bound : ℕ} (m p : ℕ) (o : Option X) → Number m → p ≤ bound → Within bound (known m p o)
 known-within m p none h k = inside h k
 known-within m p (some x) h k = passed
 
-nowhere-within : {bound : ℕ} (m : ℕ) (o : Option ℕ) → m ≤ past-last-record → ((p : ℕ) → o ≡ some p → p ≤ bound) → Within bound (nowhere m o)
+nowhere-within : {bound : ℕ} (m : ℕ) (o : Option ℕ) → Number m → ((p : ℕ) → o ≡ some p → p ≤ bound) → Within bound (nowhere m o)
 nowhere-within m none h f = passed
 nowhere-within m (some p) h f = inside h (f p refl)
 
@@ -270,16 +274,16 @@ open-own-within rules s =
 
 -- ---- the statements, of each call
 
-pub check-bound : (l : Lent) (reg ws : List ℕ) {m p : ℕ} → check-call l reg ws ≡ refused m p → (m ≤ past-last-record) × (p ≤ length (l .sig) + length ws)
+pub check-bound : (l : Lent) (reg ws : List ℕ) {m p : ℕ} → check-call l reg ws ≡ refused m p → Number m × (p ≤ length (l .sig) + length ws)
 check-bound l reg ws e = refusal (shared-within l (length reg) (used reg) (register-records reg) (check-own ws) (records-within reg) (check-own-within ws)) e
 
-pub say-bound : (l : Lent) (reg : List ℕ) (a : ℕ) (ws : List ℕ) {m p : ℕ} → say-call l reg a ws ≡ refused m p → (m ≤ past-last-record) × (p ≤ length (l .sig) + length ws)
+pub say-bound : (l : Lent) (reg : List ℕ) (a : ℕ) (ws : List ℕ) {m p : ℕ} → say-call l reg a ws ≡ refused m p → Number m × (p ≤ length (l .sig) + length ws)
 say-bound l reg a ws e = refusal (shared-within l (length reg) (used reg) (register-records reg) (say-own a ws) (records-within reg) (say-own-within a ws)) e
 
-pub request-bound : (l : Lent) (reg : List ℕ) (i v u : ℕ) (ws : List ℕ) {m p : ℕ} → request-call l reg i v u ws ≡ refused m p → (m ≤ past-last-record) × (p ≤ length (l .sig) + length ws)
+pub request-bound : (l : Lent) (reg : List ℕ) (i v u : ℕ) (ws : List ℕ) {m p : ℕ} → request-call l reg i v u ws ≡ refused m p → Number m × (p ≤ length (l .sig) + length ws)
 request-bound l reg i v u ws e = refusal (shared-within l (length reg) (used reg) (register-records reg) (request-own i v u ws) (records-within reg) (request-own-within i v u ws)) e
 
-pub open-bound : (l : Lent) (reg rules : List ℕ) {m p : ℕ} → open-call l reg rules ≡ refused m p → (m ≤ past-last-record) × (p ≤ length (l .sig) + length rules)
+pub open-bound : (l : Lent) (reg rules : List ℕ) {m p : ℕ} → open-call l reg rules ≡ refused m p → Number m × (p ≤ length (l .sig) + length rules)
 open-bound l reg rules e = refusal (shared-within l (length reg) header (ok []) (open-own rules) passed (open-own-within rules)) e
 
 -- read names no place
@@ -289,5 +293,5 @@ read-within-none reg k =
     bind-within (register-records reg) _ (records-within reg) λ rs _.
     known-within _ 0 (getElem? rs k) (omega arith) (omega arith))
 
-pub read-bound : (reg : List ℕ) (k : ℕ) {m p : ℕ} → read-call reg k ≡ refused m p → (m ≤ past-last-record) × (p ≡ 0)
+pub read-bound : (reg : List ℕ) (k : ℕ) {m p : ℕ} → read-call reg k ≡ refused m p → Number m × (p ≡ 0)
 read-bound reg k e = let (m, p) = refusal (read-within-none reg k) e in (m, omega arith)
