@@ -88,7 +88,7 @@ module _ {Y : Type 0} (l : Lent) (reg table : List ℕ) (r : Ready) (own : View 
             Σ = S .Σ;
             counted = n;
             constants = subst (λ (i : ℕ). Constants-of (l .sig) (take i table) (S .Σ)) (sym n) (S .constants);
-            lent-so = record { Σ = S .Σ; is = refl; answer = S .answer; constants = S .constants; workspace = S .workspace; not-shorter = S .not-shorter; not-longer = S .not-longer };
+            lent-so = record { Σ = S .Σ; is = refl; answer = S .answer; constants = S .constants; workspace = S .workspace; not-shorter = S .not-shorter; not-longer = S .not-longer; operations = S .operations };
             is = own-tests l (length reg) (used reg) (register-records reg) own ∙ ap (λ x. x >>= own) e ∙ ap own (S .is);
           }
       go (refused m p) e f = absurd (clash (cc))
@@ -106,6 +106,7 @@ pub record Typed-so (Σ : List Term) (ws : List ℕ) (A : Term) : Type 0 where
   pub term : Term
   pub is : check-term Σ ws ≡ ok (record { term = term; type = A })
   pub term-is : Is ws term
+  pub short : length ws ≤ most-words
 
 pub typed-so : (Σ : List Term) (ws : List ℕ) (A : Term) → typed-term Σ most-words most-nesting ws ≡ ok A → Typed-so Σ ws A
 typed-so Σ ws A e = go (term-of most-words most-nesting ws) refl e
@@ -113,7 +114,7 @@ typed-so Σ ws A e = go (term-of most-words most-nesting ws) refl e
     go : (x : Result Term) → term-of most-words most-nesting ws ≡ x → (x >>= λ t. infer Σ [] 0 t) ≡ ok A → Typed-so Σ ws A
     go (ok t) f g =
         let W = term-of-right most-words most-nesting ws t .0 f in
-        record { term = t; is = ap (with-types Σ) f ∙ ap (with-type t) g; term-is = record { plain = W .plain; words = W .words } }
+        record { term = t; is = ap (with-types Σ) f ∙ ap (with-type t) g; term-is = record { plain = W .plain; words = W .words }; short = W .not-more }
     go (refused m p) f g = absurd (clash (cc))
 
 pub typed-refused : (Σ : List Term) (ws : List ℕ) (m p : ℕ) → typed-term Σ most-words most-nesting ws ≡ refused m p → check-term Σ ws ≡ refused m p

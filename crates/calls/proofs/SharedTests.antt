@@ -8,11 +8,11 @@ use mathlib.Core.List.{List, [], _∷_, _++_}
 use lib.Dec.{leb, ltb, eqb}
 use lib.ListN.{length, take, drop, length-take}
 use borrow.Author.Tests.{le-leb, lt-leb, leb-true}
-use Rattle.logic.specs.Limits.{most-constants, most-constant-words, least-workspace, least-register, most-register}
+use Rattle.logic.specs.Limits.{most-constants, most-constant-words, least-workspace, least-register, most-register, most-operations}
 use Rattle.logic.specs.Refusals.{workspace-short, register-length, register-broken, bad-signature, bad-number}
 use Rattle.logic.specs.Result.{Result, ok, refused, _>>=_, _>>_, require, known}
 use Rattle.logic.specs.Term.{Term}
-use Rattle.logic.specs.SignatureList.{at-constant, constant, constants, signature, operations-test}
+use Rattle.logic.specs.SignatureList.{at-constant, constant, constants, signature, operations, operations-test}
 use Rattle.logic.proofs.Basics.{clash}
 use Rattle.logic.proofs.Results.{both-true, true-both}
 use Rattle.rules.specs.Scope.{Declared}
@@ -146,9 +146,22 @@ module _ {Y : Type 0} (l : Lent) (len words : ℕ) (own : View → Result Y) whe
   shared-signed records rs e r = then-passed (require (leb least-workspace (l .workspace)) workspace-short 0) (length-test len) _ e
       ∙ ap (λ x. x >>= λ rs. signature (l .sig) >>= λ Σ. require (operations-test Σ (l .n)) bad-number 0 >> own (view l len words rs Σ)) r ∙ signed-then rs
 
+-- an accepted number of operations is not too large
+few-operations : (sig : List ℕ) (n : ℕ) (Σ : List Term) → signed sig n ≡ ok Σ → n ≤ most-operations
+few-operations sig n Σ e = go (signature sig) e
+  where
+    tests : (a b c : Bool) (Σ′ : List Term) → leb n most-operations ≡ b → (require (a && b && c) bad-number 0 >> ok Σ′) ≡ ok Σ → n ≤ most-operations
+    tests true true c Σ′ q f = leb-true n most-operations q
+    tests true false c Σ′ q f = absurd (clash (cc))
+    tests false b c Σ′ q f = absurd (clash (cc))
+
+    go : (x : Result (List Term)) → (x >>= λ Σ. require (operations-test Σ n) bad-number 0 >> ok Σ) ≡ ok Σ → n ≤ most-operations
+    go (ok Σ′) f = tests (leb 1 n) (leb n most-operations) (operations Σ′ n) Σ′ refl f
+    go (refused m p) f = absurd (clash (cc))
+
 -- the shared tests found what the table and the answer say
 lent-so : (l : Lent) (len words : ℕ) (rs : List Record) (table : List ℕ) (r : Ready) → Lengths (l .workspace) len → (Σ : List Term) → signed (l .sig) (l .n) ≡ ok Σ → Signed-as (ok Σ) (l .sig) table r → Lent-so l len words rs table (view l len words rs Σ) r
-lent-so l len words rs table r L Σ e (q, c) = record { Σ = Σ; is = refl; answer = q; constants = c; workspace = L .workspace-fits; not-shorter = L .not-shorter; not-longer = L .not-longer }
+lent-so l len words rs table r L Σ e (q, c) = record { Σ = Σ; is = refl; answer = q; constants = c; workspace = L .workspace-fits; not-shorter = L .not-shorter; not-longer = L .not-longer; operations = few-operations (l .sig) (l .n) Σ e }
 
 pub opened-as : (l : Lent) (len : ℕ) (table : List ℕ) (r : Ready) → Lengths (l .workspace) len → Signed-as (signed (l .sig) (l .n)) (l .sig) table r → Opened-as (opened l len) l len table r
 opened-as l len table r L S = subst (λ (x : Result View). Opened-as x l len table r) (sym (shared-signed l len header ok (ok []) [] (L .passed) refl)) (go (signed (l .sig) (l .n)) refl S)

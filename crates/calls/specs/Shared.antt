@@ -4,7 +4,7 @@ use mathlib.Core.Path.{_≡_}
 use mathlib.Core.List.{List, []}
 use lib.Dec.{leb}
 use lib.ListN.{length, take}
-use Rattle.logic.specs.Limits.{most-constants, least-workspace, least-register, most-register}
+use Rattle.logic.specs.Limits.{most-constants, least-workspace, least-register, most-register, most-operations}
 use Rattle.logic.specs.Refusals.{workspace-short, bad-number}
 use Rattle.logic.specs.Result.{Result, ok, refused, _>>=_, _>>_, require}
 use Rattle.logic.specs.Term.{Term}
@@ -48,6 +48,7 @@ pub record Lent-so (l : Lent) (len used : ℕ) (rs : List Record) (table : List 
   pub workspace : least-workspace ≤ l .workspace
   pub not-shorter : least-register ≤ len
   pub not-longer : len ≤ most-register
+  pub operations : l .n ≤ most-operations
 
 -- on a register
 pub record Register-so (l : Lent) (reg table : List ℕ) (v : View) (r : Ready) : Type 0 where

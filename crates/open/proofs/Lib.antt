@@ -1,1 +1,3 @@
 -- The call meets its contract.
+pub mod RuleTests
+pub mod Opens

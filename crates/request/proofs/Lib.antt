@@ -1,1 +1,2 @@
 -- The call meets its contract.
+pub mod Grants

@@ -109,9 +109,12 @@ pub fn say(
     ensures { λ r. ⌜ Says-so (say-call (lent-of (now (sig .entry)) n (length (now (ws .entry)))) (now (register .entry)) principal (now (proposition .entry))) (now (register .entry)) principal (now (proposition .entry)) (now (register .exit)) r ⌝ }
 {
     let tested = sayable(sig, n, &register[..], principal, proposition, ws);
-    let Said::Added = tested else {
-        return tested;
-    };
-    add_statement(register, SAY, principal, proposition);
-    Said::Added
+    match tested {
+        Said::Added => {
+            add_statement(register, SAY, principal, proposition);
+            Said::Added
+        }
+        Said::Held => Said::Held,
+        Said::Fault { number, place } => Said::Fault { number, place },
+    }
 }

@@ -1,0 +1,156 @@
+-- A say's own tests, one after the other, behind those that calls share.
+use Prim.Native.Nat.{ℕ, suc, _+_, _-_, _≤_, _<_}
+use native.Mathlib.Omega.{arith}
+use mathlib.Core.Path.{_≡_, refl, sym, ap, _∙_}
+use mathlib.Core.Bool.{Bool, true, false, not}
+use mathlib.Core.List.{List, [], _∷_}
+use lib.Dec.{leb, ltb, eqb}
+use lib.ListN.{length}
+use borrow.Author.Tests.{le-leb, lt-leb, le-ltb, lt-ltb, eq-eqb, ne-eqb}
+use Rattle.logic.specs.Limits.{payloads, most-words, most-statement-words, most-statement-nesting}
+use Rattle.logic.specs.Refusals.{bad-number, desk-says, not-held, register-full}
+use Rattle.logic.specs.Result.{Result, ok, refused, _>>=_, _>>_, require, pick}
+use Rattle.logic.specs.Term.{Term, encode}
+use Rattle.logic.specs.Scope.{Signature}
+use Rattle.logic.specs.Reading.{first-unheld}
+use Rattle.logic.specs.Check.{check-statement}
+use Rattle.logic.proofs.Basics.{clash}
+use Rattle.logic.proofs.Check.{check-statement-right}
+use Rattle.words.specs.Place.{Is}
+use Rattle.rules.specs.declared.derivation.Verdict.{Verdict}
+use Rattle.rules.specs.declared.derivation.Verdict.the-variants.{Passed, Fault as Refusal}
+use Rattle.typing.specs.Check.{verdict-of}
+use Rattle.records.specs.Answers.{Readable, Room, unheldOf}
+use Rattle.records.specs.declared.search.Unheld.{Unheld}
+use Rattle.records.specs.declared.search.Unheld.the-variants.{Nowhere, At}
+use Rattle.records.proofs.Adds.{statement-words, room}
+use Rattle.register.specs.Records.{Record, used, held, words-of, register-records, appended, statement, say-kind}
+use Rattle.register.specs.Calls.{Lent, payload, signs-held, say-own, say-call, after-say}
+use Rattle.register.specs.Succeeds.{Sayable, Adds, held-before, added-now}
+use Rattle.register.proofs.Succeeds.{demand2}
+use Rattle.register.proofs.Words.{unbroken-right}
+use Rattle.calls.specs.Shared.{prepared, Prepared-as}
+use Rattle.calls.specs.declared.shared.Ready.{Ready}
+use Rattle.calls.specs.declared.shared.Ready.the-variants.{Constants, Fault as Unready}
+use Rattle.calls.proofs.Checks.{Passed-so, not-prepared, unheld-found, all-held}
+use Rattle.say.specs.Said.{said-of, Says-so, stated-tests}
+use Rattle.say.specs.declared.Said.{Said}
+use Rattle.say.specs.declared.Said.the-variants.{Added, Held, Fault}
+
+statement-length : (a : ℕ) (q : List ℕ) → length (words-of (statement say-kind a q ∷ [])) ≡ length q + 3
+statement-length a q = omega (arith, ap length (statement-words say-kind a q))
+
+-- ---- tests 14 and 16, and whether the statement is held
+
+abbrev in-turn : Result (Unit {0}) → Bool → Bool → Result Bool
+in-turn s h b = s >> pick h (ok false) (require b register-full 0 >> ok true)
+
+module _ (rs : List Record) (reg : List ℕ) (a : ℕ) (ws : List ℕ) (q : Term) (x : Unheld) (e : x ≡ unheldOf (first-unheld (λ b c. held rs b (encode c)) 0 q)) where
+  abbrev statement-fits : Bool
+  statement-fits = leb (used reg + length (words-of (statement say-kind a ws ∷ []))) (length reg)
+
+  pub unheld : (place : ℕ) → x ≡ At place → Fault not-held place ≡ said-of (stated-tests rs reg a ws q)
+  unheld place f = sym (ap (λ s. said-of (in-turn s (held rs a ws) statement-fits)) (unheld-found (held rs) q x place e f))
+
+  module _ (f : x ≡ Nowhere) (h : Bool) (g : h ≡ held rs a ws) where
+    signs-found : (b : Bool) → h ≡ b → stated-tests rs reg a ws q ≡ pick b (ok false) (require statement-fits register-full 0 >> ok true)
+    signs-found b k = ap (λ s. in-turn s (held rs a ws) statement-fits) (all-held (held rs) q x e f) ∙ ap (λ (y : Bool). pick y (ok false) (require statement-fits register-full 0 >> ok true)) (sym g ∙ k)
+
+    pub repeated : h ≡ true → Held ≡ said-of (stated-tests rs reg a ws q)
+    repeated k = sym (ap said-of (signs-found true k))
+
+    module _ (k : h ≡ false) where
+      pub full : length reg - used reg < length ws + 3 → Fault register-full 0 ≡ said-of (stated-tests rs reg a ws q)
+      full l = sym (ap said-of (signs-found false k ∙ ap (λ (b : Bool). require b register-full 0 >> ok true) (lt-leb (used reg + length (words-of (statement say-kind a ws ∷ []))) (length reg) (omega (arith, statement-length a ws)))))
+
+      pub enough : used reg ≤ length reg → length ws + 3 ≤ length reg - used reg → Added ≡ said-of (stated-tests rs reg a ws q)
+      enough w l = sym (ap said-of (signs-found false k ∙ ap (λ (b : Bool). require b register-full 0 >> ok true) (le-leb (used reg + length (words-of (statement say-kind a ws ∷ []))) (length reg) (omega (arith, statement-length a ws)))))
+
+-- ---- tests 6 to 12
+
+-- a statement that passes them
+pub record Statement-so (Σ : List Term) (a : ℕ) (ws : List ℕ) : Type 0 where
+  pub term : Term
+  pub is : check-statement Σ a ws ≡ ok term
+  pub term-is : Is ws term
+  pub short : length ws ≤ most-words
+
+pub statement-so : (Σ : List Term) → Signature Σ → (a : ℕ) (ws : List ℕ) (r : Verdict) → r ≡ verdict-of (check-statement Σ a ws) → r ≡ Passed → Statement-so Σ a ws
+statement-so Σ sig a ws r e q = go (check-statement Σ a ws) refl (sym q ∙ e)
+  where
+    go : (x : Result Term) → check-statement Σ a ws ≡ x → Passed ≡ verdict-of x → Statement-so Σ a ws
+    go (ok t) f g = let W = check-statement-right Σ sig ws a t .0 f .term in record { term = t; is = f; term-is = record { plain = W .plain; words = W .words }; short = omega (arith, W .not-more) }
+    go (refused m p) f g = absurd (clash (cc))
+
+-- ---- all tests
+
+module _ (l : Lent) (reg table ws : List ℕ) (a : ℕ) (r : Ready) (P : Prepared-as (prepared l reg) l reg table r) where
+  pub say-not-prepared : (m place : ℕ) → r ≡ Unready m place → Fault m place ≡ said-of (say-call l reg a ws)
+  say-not-prepared m place q = sym (ap said-of (not-prepared l reg table r (say-own a ws) P m place q))
+
+  module _ (count : ℕ) (so : Passed-so l reg table r (say-own a ws) P count) where
+    abbrev behind : Result Term → Result Bool
+    behind x = x >>= λ q. stated-tests (so .rs) reg a ws q
+
+    abbrev numbered : Bool → Bool → Result Bool
+    numbered b d = require b bad-number 0 >> (require (not d) desk-says 0 >> behind (check-statement (so .Σ) a ws))
+
+    pub principal-over : payloads ≤ a → Fault bad-number 0 ≡ said-of (say-call l reg a ws)
+    principal-over h = sym (ap said-of (so .is ∙ ap (λ (b : Bool). numbered b (eqb a 0)) (le-ltb a payloads h)))
+
+    module _ (h : a < payloads) where
+      pub by-desk : a ≡ 0 → Fault desk-says 0 ≡ said-of (say-call l reg a ws)
+      by-desk e = sym (ap said-of (so .is ∙ ap (λ (b : Bool). numbered b (eqb a 0)) (lt-ltb a payloads h) ∙ ap (numbered true) (eq-eqb a 0 e)))
+
+      module _ (n : a ≡ 0 → ⊥) (d : Verdict) (e : d ≡ verdict-of (check-statement (so .Σ) a ws)) where
+        numbers-right : say-call l reg a ws ≡ behind (check-statement (so .Σ) a ws)
+        numbers-right = so .is ∙ ap (λ (b : Bool). numbered b (eqb a 0)) (lt-ltb a payloads h) ∙ ap (numbered true) (ne-eqb a 0 n)
+
+        pub not-stated : (m place : ℕ) → d ≡ Refusal m place → Fault m place ≡ said-of (say-call l reg a ws)
+        not-stated m place q = sym (ap said-of (numbers-right ∙ ap behind (go (check-statement (so .Σ) a ws) (sym e ∙ q))))
+          where
+            go : (x : Result Term) → verdict-of x ≡ Refusal m place → x ≡ refused m place
+            go (ok t) f = absurd (clash (cc))
+            go (refused m′ place′) f = cc
+
+        pub stated : (S : Statement-so (so .Σ) a ws) (x : Said) → x ≡ said-of (stated-tests (so .rs) reg a ws (S .term)) → x ≡ said-of (say-call l reg a ws)
+        stated S x g = g ∙ sym (ap said-of (numbers-right ∙ ap behind (S .is)))
+
+-- ---- what a say leaves
+
+module _ (l : Lent) (reg ws : List ℕ) (a : ℕ) (r : Said) (e : r ≡ said-of (say-call l reg a ws)) where
+  pub say-refused : (m place : ℕ) → r ≡ Fault m place → Says-so (say-call l reg a ws) reg a ws reg (Fault m place)
+  say-refused m place q = record { answer = sym q ∙ e; register = go (say-call l reg a ws) (sym q ∙ e) }
+    where
+      go : (o : Result Bool) → Fault m place ≡ said-of o → reg ≡ after-say o reg a ws
+      go (ok true) f = absurd (clash (cc))
+      go (ok false) f = absurd (clash (cc))
+      go (refused m′ place′) f = refl
+
+  pub say-held : r ≡ Held → Says-so (say-call l reg a ws) reg a ws reg Held
+  say-held q = record { answer = sym q ∙ e; register = go (say-call l reg a ws) (sym q ∙ e) }
+    where
+      go : (o : Result Bool) → Held ≡ said-of o → reg ≡ after-say o reg a ws
+      go (ok true) f = absurd (clash (cc))
+      go (ok false) f = refl
+      go (refused m′ place′) f = absurd (clash (cc))
+
+  module _ (q : r ≡ Added) where
+    added : say-call l reg a ws ≡ ok true
+    added = go (say-call l reg a ws) (sym q ∙ e)
+      where
+        go : (o : Result Bool) → Added ≡ said-of o → o ≡ ok true
+        go (ok true) f = refl
+        go (ok false) f = absurd (clash (cc))
+        go (refused m′ place′) f = absurd (clash (cc))
+
+    pub say-room : Room reg (statement say-kind a ws ∷ [])
+    say-room =
+        let S = demand2 .says l reg a ws true .0 added in
+        room reg (statement say-kind a ws ∷ []) (record { found = S .rs; reads = unbroken-right reg (S .rs) .1 (S .unbroken) }) (S .ready .not-longer) (fits-now (S .adds))
+      where
+        fits-now : {rs : List Record} → Adds rs reg a ws true → used reg + length (words-of (statement say-kind a ws ∷ [])) ≤ length reg
+        fits-now (added-now n f) = f
+
+    pub say-added : (new : List ℕ) → new ≡ appended reg (statement say-kind a ws ∷ []) → Says-so (say-call l reg a ws) reg a ws new Added
+    say-added new f = record { answer = sym q ∙ e; register = f ∙ sym (ap (λ (o : Result Bool). after-say o reg a ws) added) }
