@@ -45,8 +45,18 @@ pub const TAG_KIND_P: u32 = 16;
 
 pub const TAG_KIND_T: u32 = 17;
 
-// The word of variable 0.
+// The words of Says and App, and of variable 0, constant 0, string 0 and principal 0.
+pub const SAYS: u32 = TAG_SAYS * PAYLOADS;
+
+pub const APP: u32 = TAG_APP * PAYLOADS;
+
 pub const VARIABLE_0: u32 = TAG_VARIABLE * PAYLOADS;
+
+pub const CONSTANT_0: u32 = TAG_CONSTANT * PAYLOADS;
+
+pub const TEXT_0: u32 = TAG_TEXT * PAYLOADS;
+
+pub const NAME_0: u32 = TAG_NAME * PAYLOADS;
 
 // What a word may begin: an atom, a variable, a Sign, a node whose second child stands under no binder or under one, or no term.
 pub const ATOM: u32 = 0;

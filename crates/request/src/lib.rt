@@ -7,12 +7,13 @@ use logic::refusal::ANOTHER_PROPOSITION;
 use logic::refusal::BAD_NUMBER;
 use logic::refusal::NOT_HELD;
 use logic::refusal::REGISTER_FULL;
+use logic::word::APP;
+use logic::word::CONSTANT_0;
+use logic::word::NAME_0;
 use logic::word::PAYLOADS;
-use logic::word::TAG_APP;
-use logic::word::TAG_CONSTANT;
-use logic::word::TAG_NAME;
-use logic::word::TAG_SAYS;
-use logic::word::TAG_TEXT;
+use logic::word::SAYS;
+use logic::word::TEXT_0;
+use records::format::DESK;
 use records::format::GRANT_WORDS;
 use records::search::Unheld;
 use records::search::first_unheld;
@@ -58,11 +59,11 @@ fn permits(ws: &[u32], n: usize, operation: u32, extract: u32) -> bool
     ensures { λ r. ⌜ ((A : Term) → TypeAt (now (ws .entry)) 0 A → n ≡ size A → r ≡ sameTerm A (permission operation extract)) ⌝ }
 {
     let wanted = [
-        TAG_SAYS * PAYLOADS,
-        TAG_NAME * PAYLOADS,
-        TAG_APP * PAYLOADS,
-        TAG_CONSTANT * PAYLOADS + 2 * operation,
-        TAG_TEXT * PAYLOADS + extract,
+        SAYS,
+        NAME_0 + DESK,
+        APP,
+        CONSTANT_0 + 2 * operation,
+        TEXT_0 + extract,
     ];
     same(&ws[..n], &wanted)
 }

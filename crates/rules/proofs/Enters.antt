@@ -23,10 +23,10 @@ use Rattle.logic.proofs.Proposition.{same-yes, same-no}
 use Rattle.logic.proofs.Words.{first, head, shape-first, encode-size}
 use Rattle.logic.specs.Kind.{kind-binder, opKind, kindOf}
 use Rattle.words.specs.Place.{At, written}
-use Rattle.words.specs.Shift.{Shifted}
+use Rattle.moves.specs.Shift.{Shifted}
 use Rattle.words.specs.Typed.{TypeAt}
 use Rattle.words.proofs.Places.{words-head, at-head, at-left}
-use Rattle.words.proofs.Shifts.{length-shift}
+use Rattle.moves.proofs.Shifts.{length-shift}
 use Rattle.rules.specs.Rule.{ready}
 use Rattle.rules.specs.Scope.{tail, entry-head, entry}
 use Rattle.rules.specs.Form.{front-words, level-words}

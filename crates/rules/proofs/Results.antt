@@ -26,18 +26,18 @@ use Rattle.logic.proofs.Proposition.{same-yes, same-no}
 use Rattle.logic.proofs.Words.{head, first, shape-first, InRange, plain-in-range, encode-size, prefix-free}
 use Rattle.words.specs.Place.{At, Is, written}
 use Rattle.words.specs.Typed.{TypeAt}
-use Rattle.words.specs.Shift.{Shifted}
-use Rattle.words.specs.Fill.{FilledTo}
-use Rattle.words.specs.Occurrence.{occurrence}
-use Rattle.words.specs.declared.fill.Filled.{Filled}
-use Rattle.words.specs.declared.fill.Filled.the-variants.{Done, Over}
-use Rattle.words.specs.declared.occurrence.Occurrence.{Occurrence}
-use Rattle.words.specs.declared.occurrence.Occurrence.the-variants.{Absent, Present}
+use Rattle.moves.specs.Shift.{Shifted}
+use Rattle.moves.specs.Fill.{FilledTo}
+use Rattle.moves.specs.Occurrence.{occurrence}
+use Rattle.moves.specs.declared.fill.Filled.{Filled}
+use Rattle.moves.specs.declared.fill.Filled.the-variants.{Done, Over}
+use Rattle.moves.specs.declared.occurrence.Occurrence.{Occurrence}
+use Rattle.moves.specs.declared.occurrence.Occurrence.the-variants.{Absent, Present}
 use Rattle.words.proofs.Lists.{written-cons, written-node, written-front}
 use Rattle.words.proofs.Places.{size-pos, words-head, at-head, at-part, at-sign, at-left, at-right}
 use Rattle.words.proofs.Types.{in-range}
-use Rattle.words.proofs.Shifts.{size-shift, length-shift}
-use Rattle.words.proofs.Fills.{done-is, over-is}
+use Rattle.moves.proofs.Shifts.{size-shift, length-shift}
+use Rattle.moves.proofs.Fills.{done-is, over-is}
 use Rattle.rules.specs.Rule.{sign-type, paired, applied, bound}
 use Rattle.rules.specs.Scope.{entry-head}
 use Rattle.rules.specs.Form.{front-words, Formed}

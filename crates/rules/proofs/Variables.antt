@@ -20,10 +20,10 @@ use Rattle.logic.specs.Move.{shift, raise}
 use Rattle.logic.specs.Infer.{measured}
 use Rattle.words.specs.Place.{At, Is, written}
 use Rattle.words.specs.Lookup.{partOf}
-use Rattle.words.specs.Shift.{Shifted}
+use Rattle.moves.specs.Shift.{Shifted}
 use Rattle.words.proofs.Lists.{written-front}
 use Rattle.words.proofs.Places.{is-at}
-use Rattle.words.proofs.Shifts.{size-shift, length-shift}
+use Rattle.moves.proofs.Shifts.{size-shift, length-shift}
 use Rattle.rules.specs.Rule.{variable-type}
 use Rattle.rules.specs.Scope.{tail, scope-words, entry-head}
 use Rattle.rules.specs.Form.{Formed}

@@ -2,10 +2,10 @@
 use crate::derivation::Derivation;
 use crate::scope::ENTRY_HEAD;
 use logic::refusal::CONDITION_FAILS;
-use words::occurrence::Occurrence;
-use words::occurrence::occurs;
+use moves::occurrence::Occurrence;
+use moves::occurrence::occurs;
 use words::part::same;
-use words::shift::shift_within;
+use moves::shift::shift_within;
 ghost use Rattle.logic.specs.Term.{Term};
 ghost use Rattle.rules.specs.Rule.{bound};
 ghost use Rattle.rules.specs.Form.{Formed};

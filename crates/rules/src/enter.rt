@@ -13,7 +13,7 @@ use logic::word::TAG_TYPE;
 use logic::word::kind;
 use logic::word::tag_of;
 use words::part::copy_within;
-use words::shift::shift_within;
+use moves::shift::shift_within;
 ghost use mathlib.Core.Path.{_≡_};
 ghost use mathlib.Core.List.{[], _∷_};
 ghost use Prim.Native.Nat.{ℕ, _+_, _-_, _≤_, _<_};

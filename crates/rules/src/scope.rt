@@ -5,7 +5,7 @@ use logic::refusal::TYPE_TOO_LONG;
 use logic::refusal::UNBOUND_VARIABLE;
 use words::lookup::lookup;
 use words::part::copy;
-use words::shift::shift_into;
+use moves::shift::shift_into;
 ghost use Prim.Native.Nat.{ℕ, _+_, _<_};
 ghost use mathlib.Core.List.{List};
 ghost use Rattle.logic.specs.Term.{Term};

@@ -33,7 +33,7 @@ use Rattle.words.specs.Place.{At}
 use Rattle.words.specs.Typed.{TypeAt}
 use Rattle.words.proofs.Places.{at-head, at-sign, at-left, at-right, payload}
 use Rattle.logic.proofs.Shapes.{headKind, op-low}
-use Rattle.words.proofs.Shifts.{size-shift}
+use Rattle.moves.proofs.Shifts.{size-shift}
 use Rattle.rules.specs.Rule.{atom-type, variable-type, sign-type, first, second, ready, within, formed}
 use Rattle.rules.specs.Scope.{tail, scope-words, entry-head, Binders, no-binder as no-entries, in-proof, in-workspace, entry, Declared}
 use Rattle.rules.specs.Form.{answer-of, Front, Formed, front-words, level-words}

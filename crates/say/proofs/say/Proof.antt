@@ -1,3 +1,7 @@
+use lib.ListN.{length}
+use Rattle.register.specs.Calls.{Lent}
+use Rattle.calls.specs.Shared.{lent-of}
+use Rattle.say.proofs.Statements.{say-room, say-added, say-held, say-refused}
 use native.Mathlib.Omega.{arith}
 use borrow.Author.Needs.{needs}
 use Rattle.say.proofs.say.Statement.{statement}
@@ -7,11 +11,24 @@ use Rattle.say.proofs.say.Lts as lts
 use Rattle.records.proofs.write.add_statement.Reads as add-statement-reads
 use Rattle.say.proofs.sayable.Reads as sayable-reads
 
+-- what is lent
+abbrev lent-here : tie.Start → Lent
+lent-here s = lent-of (s .args .sig .now) (s .args .n) (length (s .args .ws .now))
+
 sayable-requires : tie.Need-sayable-requires
 sayable-requires c κs = search needs
 
 enum-told : tie.Need-enum-told
 enum-told c = search needs
+
+add-statement-requires : tie.Need-add-statement-requires
+add-statement-requires c κs = say-room (lent-here (c .before .before .before .before .before .before .before .before .before .before .before .before)) (c .before .before .before .before .before .before .before .before .before .before .before .before .args .register .now) (c .before .before .before .before .before .before .before .before .before .before .before .before .args .proposition .now) (c .before .before .before .before .before .before .before .before .before .before .before .before .args .principal) (c .before .before .before .before .before .sayable .result) (c .before .before .before .before .before .sayable .ensures) (c .before .enum-told .given .1)
+
+enum-told-2 : tie.Need-enum-told-2
+enum-told-2 c = search needs
+
+enum-known-tested : tie.Need-enum-known-tested
+enum-known-tested c = search needs
 
 same-length : tie.Need-same-length
 same-length c = search needs
@@ -20,10 +37,7 @@ same-length-2 : tie.Need-same-length-2
 same-length-2 c = search needs
 
 returns : tie.Need-returns
-returns c = search needs
-
-add-statement-requires : tie.Need-add-statement-requires
-add-statement-requires c κs = search needs
+returns c = say-added (lent-here (c .before .before .before .before .before .before .before .before .before .before .before .before .before .before .before)) (c .before .before .before .before .before .before .before .before .before .before .before .before .before .before .before .args .register .now) (c .before .before .before .before .before .before .before .before .before .before .before .before .before .before .before .args .proposition .now) (c .before .before .before .before .before .before .before .before .before .before .before .before .before .before .before .args .principal) (c .before .before .before .before .before .before .before .before .sayable .result) (c .before .before .before .before .before .before .before .before .sayable .ensures) (c .before .before .before .before .enum-told .given .1) _ (c .before .before .add-statement .ensures)
 
 same-length-3 : tie.Need-same-length-3
 same-length-3 c = search needs
@@ -32,7 +46,16 @@ same-length-4 : tie.Need-same-length-4
 same-length-4 c = search needs
 
 returns-2 : tie.Need-returns-2
-returns-2 c = search needs
+returns-2 c = say-held (lent-here (c .before .before .before .before .before .before .before .before .before .before .before)) (c .before .before .before .before .before .before .before .before .before .before .before .args .register .now) (c .before .before .before .before .before .before .before .before .before .before .before .args .proposition .now) (c .before .before .before .before .before .before .before .before .before .before .before .args .principal) (c .before .before .before .before .sayable .result) (c .before .before .before .before .sayable .ensures) (c .enum-told2 .given .1)
+
+same-length-5 : tie.Need-same-length-5
+same-length-5 c = search needs
+
+same-length-6 : tie.Need-same-length-6
+same-length-6 c = search needs
+
+returns-3 : tie.Need-returns-3
+returns-3 c = say-refused (lent-here (c .before .before .before .before .before .before .before .before .before .before .before .before)) (c .before .before .before .before .before .before .before .before .before .before .before .before .args .register .now) (c .before .before .before .before .before .before .before .before .before .before .before .before .args .proposition .now) (c .before .before .before .before .before .before .before .before .before .before .before .before .args .principal) (c .before .before .before .before .before .sayable .result) (c .before .before .before .before .before .sayable .ensures) _ _ (c .before .tested .given .1)
 
 pub say-spec : {M : Type 1} → statement M
 say-spec =
@@ -40,10 +63,15 @@ say-spec =
     (tie.spec
     sayable-requires
     enum-told
+    add-statement-requires
+    enum-told-2
+    enum-known-tested
     same-length
     same-length-2
     returns
-    add-statement-requires
     same-length-3
     same-length-4
-    returns-2)
+    returns-2
+    same-length-5
+    same-length-6
+    returns-3)

@@ -1,5 +1,5 @@
 use Rattle.io.proofs.Counting.{counts}
-use Rattle.words.proofs.Fills.{done-is}
+use Rattle.moves.proofs.Fills.{done-is}
 use Rattle.words.proofs.Parses.{whole-term}
 use Rattle.words.proofs.Places.{is-at, size-is}
 use Rattle.logic.specs.Move.{fillAt}
@@ -11,7 +11,7 @@ use Rattle.words_run.proofs.filled.Statement.{statement}
 use Rattle.words_run.proofs.filled.Tie as tie
 use Rattle.words_run.proofs.filled.Reads as reads
 use Rattle.words_run.proofs.filled.Lts as lts
-use Rattle.words.proofs.fill.fill_into.Reads as fill-into-reads
+use Rattle.moves.proofs.fill.fill_into.Reads as fill-into-reads
 use Rattle.words.proofs.read.read_whole.Reads as read-whole-reads
 
 read-whole-requires : tie.Need-read-whole-requires

@@ -16,7 +16,7 @@ use Rattle.words_run.proofs.shifted.Tie as tie
 use Rattle.words_run.proofs.shifted.Reads as reads
 use Rattle.words_run.proofs.shifted.Lts as lts
 use Rattle.words.proofs.read.read_whole.Reads as read-whole-reads
-use Rattle.words.proofs.shift.shift_into.Reads as shift-into-reads
+use Rattle.moves.proofs.shift.shift_into.Reads as shift-into-reads
 
 read-whole-requires : tie.Need-read-whole-requires
 read-whole-requires c κs = search needs

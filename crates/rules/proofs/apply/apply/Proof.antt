@@ -7,8 +7,8 @@ use borrow.Author.Needs.{needs}
 use Rattle.logic.specs.Move.{fillAt}
 use Rattle.logic.specs.Limits.{most-words, most-type-words}
 use Rattle.logic.specs.Term.{Term, size}
-use Rattle.words.specs.Fill.{FilledTo}
-use Rattle.words.proofs.Fills.{done-is}
+use Rattle.moves.specs.Fill.{FilledTo}
+use Rattle.moves.proofs.Fills.{done-is}
 use Rattle.words.proofs.Places.{at-end, size-is}
 use Rattle.rules.specs.Form.{front-words}
 use Rattle.rules.specs.Results.{Applies}

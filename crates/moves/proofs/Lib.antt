@@ -1,0 +1,5 @@
+-- Laws of moved words, one for each step of the code.
+pub mod Signed
+pub mod Shifts
+pub mod Fills
+pub mod Occurrences

@@ -1,0 +1,29 @@
+-- What the code that fills a term is asked and what it ensures.
+use Prim.Native.Nat.{ℕ, _+_, _≤_}
+use mathlib.Core.Path.{_≡_}
+use mathlib.Core.List.{List}
+use lib.ListN.{length}
+use lib.Dec.{leb}
+use Rattle.logic.specs.Limits.{payloads}
+use Rattle.logic.specs.Result.{pick}
+use Rattle.logic.specs.Term.{Term, encode, size}
+use Rattle.words.specs.Place.{At, Is, written}
+use Rattle.moves.specs.declared.fill.Filled.{Filled}
+use Rattle.moves.specs.declared.fill.Filled.the-variants.{Done, Over}
+
+-- a term stands at a place, the binders that are passed do not make c too big, and the filler's words are lent
+pub record Fillable (ws : List ℕ) (at c : ℕ) (fs : List ℕ) : Type 0 where
+  pub term : Term
+  pub here : At ws at term
+  pub deep : c + size term ≤ payloads
+  pub filler : Term
+  pub lends : Is fs filler
+  pub short : length fs ≤ payloads
+
+-- of t, which stands at a place, u is to be written from the place to on into a list of len words
+abbrev pub filledAt : ℕ → ℕ → ℕ → Term → Term → Filled
+filledAt at to len t u = pick (leb (to + size u) len) (Done (at + size t) (to + size u)) Over
+
+pub record FilledTo (t u : Term) (at : ℕ) (old : List ℕ) (to : ℕ) (new : List ℕ) (r : Filled) : Type 0 where
+  pub answer : r ≡ filledAt at to (length old) t u
+  pub words : to + size u ≤ length old → new ≡ written old to (encode u)

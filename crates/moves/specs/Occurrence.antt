@@ -1,0 +1,20 @@
+-- Whether a variable occurs.
+use Prim.Native.Nat.{ℕ, _+_, _≤_}
+use mathlib.Core.List.{List}
+use lib.Dec.{eqb}
+use Rattle.logic.specs.Limits.{payloads}
+use Rattle.logic.specs.Result.{pick}
+use Rattle.logic.specs.Term.{Term, size}
+use Rattle.words.specs.Place.{At}
+use Rattle.moves.specs.declared.occurrence.Occurrence.{Occurrence}
+use Rattle.moves.specs.declared.occurrence.Occurrence.the-variants.{Absent, Present}
+
+-- a term stands at a place, and the binders that are passed do not make c too big
+pub record Searchable (ws : List ℕ) (at c : ℕ) : Type 0 where
+  pub term : Term
+  pub here : At ws at term
+  pub deep : c + size term ≤ payloads
+
+-- of a term that ends at a place, by how often the variable stands free
+abbrev pub occurrence : ℕ → ℕ → Occurrence
+occurrence end n = pick (eqb n 0) (Absent end) Present

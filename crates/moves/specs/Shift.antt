@@ -1,0 +1,22 @@
+-- What the code that shifts a term is asked and what it ensures.
+use Prim.Native.Nat.{ℕ, _+_, _≤_}
+use mathlib.Core.Path.{_≡_}
+use mathlib.Core.List.{List}
+use lib.IntN.{ℤ, natAbs}
+use Rattle.logic.specs.Limits.{payloads}
+use Rattle.logic.specs.Term.{Term, encode, size}
+use Rattle.logic.specs.Move.{shift}
+use Rattle.words.specs.Place.{At, written}
+
+-- a term stands at a place, there is room for its words, and its variables' numbers stay far below 2 ^ 31
+pub record Shiftable (ws : List ℕ) (at c : ℕ) (z : ℤ) (room : ℕ) : Type 0 where
+  pub term : Term
+  pub here : At ws at term
+  pub fits : size term ≤ room
+  pub deep : c + size term ≤ payloads
+  pub near : natAbs z ≤ payloads
+
+-- the words of the shifted term were written at a place
+pub record Shifted (t : Term) (c : ℕ) (z : ℤ) (old : List ℕ) (to : ℕ) (new : List ℕ) (r : ℕ) : Type 0 where
+  pub count : r ≡ size t
+  pub words : new ≡ written old to (encode (shift c z t))
