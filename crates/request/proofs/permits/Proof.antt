@@ -10,29 +10,17 @@ use Rattle.request.proofs.permits.Reads as reads
 use Rattle.request.proofs.permits.Lts as lts
 use Rattle.words.proofs.part.same.Reads as same-reads
 
-mul-t6 : tie.Need-mul-t6
-mul-t6 c = search needs
+add-t6 : tie.Need-add-t6
+add-t6 c = search needs
 
 mul-t7 : tie.Need-mul-t7
 mul-t7 c = search needs
 
-mul-t8 : tie.Need-mul-t8
-mul-t8 c = search needs
+add-t8 : tie.Need-add-t8
+add-t8 c = search needs
 
-mul-t9 : tie.Need-mul-t9
-mul-t9 c = search needs
-
-mul-t10 : tie.Need-mul-t10
-mul-t10 c = search needs
-
-add-t11 : tie.Need-add-t11
-add-t11 c = search needs
-
-mul-t12 : tie.Need-mul-t12
-mul-t12 c = search needs
-
-add-t13 : tie.Need-add-t13
-add-t13 c = search needs
+add-t9 : tie.Need-add-t9
+add-t9 c = search needs
 
 slice-aggregate-same : tie.Need-slice-aggregate-same
 slice-aggregate-same c = let s = c .before .before in sym (length-take-le (s .args .n) (s .args .ws .now) (s .pre .0))
@@ -51,14 +39,10 @@ pub permits-spec : {M : Type 1} → statement M
 permits-spec =
     tie.close
     (tie.spec
-    mul-t6
+    add-t6
     mul-t7
-    mul-t8
-    mul-t9
-    mul-t10
-    add-t11
-    mul-t12
-    add-t13
+    add-t8
+    add-t9
     slice-aggregate-same
     slice-aggregate-same-2
     same-requires
