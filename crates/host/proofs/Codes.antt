@@ -1,16 +1,15 @@
 -- Numbers and places as one number: they fit, and the number is the definition's.
 use Prim.Native.Nat.{ℕ, _+_, _*_, _≤_, _<_}
 use native.Mathlib.Omega.{arith}
-use mathlib.Core.Path.{_≡_, refl, sym, ap, ap₂, subst, _∙_}
+use mathlib.Core.Path.{_≡_, refl, sym, ap, _∙_}
 use mathlib.Core.Bool.{Bool, true, false}
 use mathlib.Core.List.{List}
-use lib.ListN.{length, take}
+use lib.ListN.{length}
 use lib.Seq.{length-take-le}
 use Rattle.logic.specs.Refusals.{past-last-record}
 use Rattle.logic.specs.Result.{Result, ok, refused}
 use Rattle.logic.specs.Term.{Term}
 use Rattle.logic.proofs.Basics.{clash}
-use Rattle.rules.specs.Form.{answer-of}
 use Rattle.rules.specs.declared.derivation.Derivation.{Derivation}
 use Rattle.rules.specs.declared.derivation.Derivation.the-variants.{Typed, Refused}
 use Rattle.rules.specs.declared.derivation.Verdict.{Verdict}
@@ -18,8 +17,7 @@ use Rattle.rules.specs.declared.derivation.Verdict.the-variants.{Passed, Fault}
 use Rattle.typing.specs.Check.{Judged, verdict-of}
 use Rattle.register.specs.Calls.{Lent, open-call, say-call, after-say, request-call, check-call}
 use Rattle.register.proofs.Bounds.{Number, open-bound, say-bound, request-bound, check-bound}
-use Rattle.calls.specs.Answers.{number-of, place-of, type-of, Handed}
-use Rattle.calls.specs.Shared.{lent-of}
+use Rattle.calls.specs.Answers.{number-of, place-of}
 use Rattle.calls.proofs.Checks.{words-within, handed-type, handed-nothing}
 use Rattle.say.specs.Said.{said-of, Says-so}
 use Rattle.say.specs.declared.Said.{Said}

@@ -3,8 +3,7 @@ use Prim.Native.Nat.{ℕ, zero, suc, _+_, _-_, _*_, _≤_, _<_}
 use native.Mathlib.Omega.{arith}
 use mathlib.Core.Path.{_≡_, refl, sym, ap, ap₂, _∙_}
 use mathlib.Core.Bool.{_&&_}
-use mathlib.Core.List.{List, [], _∷_, _++_}
-use mathlib.Core.Option.{some, none}
+use mathlib.Core.List.{List, [], _∷_}
 use lib.Dec.{leb}
 use lib.ListN.{length, take, drop, getD, getElem?, length-append, take-append-drop}
 use lib.Seq.{take-at}
@@ -14,13 +13,13 @@ use Rattle.logic.specs.Refusals.{past-last-record}
 use Rattle.logic.specs.Result.{Result, ok, refused, _>>=_, _>>_, known}
 use Rattle.logic.proofs.Basics.{clash}
 use Rattle.logic.proofs.Results.{bound, tested, found, both-true}
-use Rattle.register.specs.Records.{Record, header, words-of, register-records, used}
+use Rattle.register.specs.Records.{Record, header, words-of, register-records}
 use Rattle.register.specs.Calls.{read-call}
 use Rattle.register.proofs.Bounds.{read-bound}
 use Rattle.register.proofs.Words.{words-append}
 use Rattle.records.specs.Answers.{From, Among, body-of, kind-of, number-of}
-use Rattle.records.proofs.Stands.{Reached, from-start, Bounds, reached-bounds, read-there}
-use Rattle.host.specs.Answers.{number-unit, code-of, record-head, body-start, start-of, Read-to}
+use Rattle.records.proofs.Stands.{Reached, from-start, reached-bounds, read-there}
+use Rattle.host.specs.Answers.{number-unit, code-of, record-head, start-of, Read-to}
 
 -- the records before k fill the words up to it
 start-from : (reg : List ℕ) (rs : List Record) (at k : ℕ) → From reg header rs → From reg at (drop k rs) → at ≡ header + length (words-of (take k rs))
@@ -34,6 +33,10 @@ entry-within [] zero e = absurd (clash (cc))
 entry-within [] (suc k) e = absurd (clash (cc))
 entry-within (x ∷ rs) zero e = omega arith
 entry-within (x ∷ rs) (suc k) e = let h = entry-within rs k e in omega arith
+
+-- where a body starts, by what is read of the record and of all records
+abbrev start-by : ℕ → Result Record → Result (List Record) → ℕ
+start-by k x y = start-of (x >> (y >>= λ rs. ok (header + length (words-of (take k rs)) + record-head)))
 
 -- a part has its own length
 part-words : (xs : List ℕ) (j : ℕ) → take (length (take j xs)) xs ≡ take j xs
@@ -65,7 +68,7 @@ module _ (reg : List ℕ) (k m : ℕ) (n : m ≡ number-of (read-call reg k)) wh
       record {
         answer = c ∙ sym (ap code-of r);
         kind-is = e;
-        start-is = sym (ap (λ (x : Result Record). start-of (x >> (register-records reg >>= λ rs. ok (header + length (words-of (take k rs)) + record-head)))) r);
+        start-is = sym (ap (λ (x : Result Record). start-by k x (register-records reg)) r);
         words-are = ap length b;
         body = ap (λ (l : List ℕ). take (length l) reg) z ∙ sym z ∙ b;
       }
@@ -96,7 +99,7 @@ module _ (reg : List ℕ) (k : ℕ) (P : Present reg k) (at : ℕ) (R : Reached 
       record {
         answer = ap code-of r;
         kind-is = e;
-        start-is = ap (λ (i : ℕ). i + record-head) s ∙ ap₂ (λ (x : Result Record) (y : Result (List Record)). start-of (x >> (y >>= λ rs. ok (header + length (words-of (take k rs)) + record-head)))) r (sym (A .reads));
+        start-is = ap (λ (i : ℕ). i + record-head) s ∙ ap₂ (start-by k) r (sym (A .reads));
         words-are = ap length b;
         body = ap (λ (l : List ℕ). take (length l) (drop (at + 2) reg)) z ∙ part-words (drop (at + 2) reg) j ∙ sym z ∙ b;
       }

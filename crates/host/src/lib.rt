@@ -91,7 +91,16 @@ pub extern "C" fn aura0_request(
 ) -> u64
     ensures { λ r. ⌜ Requested-to (request-call (lent-of (now (signature .entry)) n (length (now (workspace .entry)))) (now (register .entry)) operation extract delivery (now (proof .entry))) (now (register .entry)) operation extract delivery (now (proof .entry)) (now (register .exit)) r ⌝ }
 {
-    let verdict = request(signature, n, register, operation, extract, delivery, proof, workspace);
+    let verdict = request(
+        signature,
+        n,
+        register,
+        operation,
+        extract,
+        delivery,
+        proof,
+        workspace,
+    );
     match verdict {
         Verdict::Passed => 0,
         Verdict::Fault { number, place } => code(number, place),

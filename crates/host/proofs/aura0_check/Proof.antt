@@ -7,10 +7,6 @@ use native.Mathlib.Omega.{arith}
 use borrow.Author.Needs.{needs}
 use Rattle.host.proofs.aura0_check.Statement.{statement}
 use Rattle.host.proofs.aura0_check.Tie as tie
-use Rattle.host.proofs.aura0_check.Reads as reads
-use Rattle.host.proofs.aura0_check.Lts as lts
-use Rattle.calls.proofs.check.check.Reads as check-reads
-use Rattle.host.proofs.code.Reads as code-reads
 
 abbrev lent-here : tie.Start → Lent
 lent-here s = lent-of (s .args .signature .now) (s .args .n) (length (s .args .workspace .now))

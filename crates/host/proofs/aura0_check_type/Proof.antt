@@ -9,10 +9,6 @@ use native.Mathlib.Omega.{arith}
 use borrow.Author.Needs.{needs}
 use Rattle.host.proofs.aura0_check_type.Statement.{statement}
 use Rattle.host.proofs.aura0_check_type.Tie as tie
-use Rattle.host.proofs.aura0_check_type.Reads as reads
-use Rattle.host.proofs.aura0_check_type.Lts as lts
-use Rattle.calls.proofs.check.judge.Reads as judge-reads
-use Rattle.host.proofs.code.Reads as code-reads
 
 abbrev lent-here : tie.Start → Lent
 lent-here s = lent-of (s .args .signature .now) (s .args .n) (length (s .args .workspace .now))

@@ -9,10 +9,6 @@ use native.Mathlib.Omega.{arith}
 use borrow.Author.Needs.{needs}
 use Rattle.host.proofs.aura0_open.Statement.{statement}
 use Rattle.host.proofs.aura0_open.Tie as tie
-use Rattle.host.proofs.aura0_open.Reads as reads
-use Rattle.host.proofs.aura0_open.Lts as lts
-use Rattle.host.proofs.code.Reads as code-reads
-use Rattle.open.proofs.open.Reads as open-reads
 
 abbrev lent-here : tie.Start → Lent
 lent-here s = lent-of (s .args .signature .now) (s .args .n) (length (s .args .workspace .now))

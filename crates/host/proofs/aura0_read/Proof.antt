@@ -3,11 +3,6 @@ use native.Mathlib.Omega.{arith}
 use borrow.Author.Needs.{needs}
 use Rattle.host.proofs.aura0_read.Statement.{statement}
 use Rattle.host.proofs.aura0_read.Tie as tie
-use Rattle.host.proofs.aura0_read.Reads as reads
-use Rattle.host.proofs.aura0_read.Lts as lts
-use Rattle.host.proofs.code.Reads as code-reads
-use Rattle.records.proofs.read.place.Reads as place-reads
-use Rattle.records.proofs.read.read.Reads as read-reads
 
 read-requires : tie.Need-read-requires
 read-requires c κs = search needs

@@ -7,10 +7,6 @@ use native.Mathlib.Omega.{arith}
 use borrow.Author.Needs.{needs}
 use Rattle.host.proofs.aura0_request.Statement.{statement}
 use Rattle.host.proofs.aura0_request.Tie as tie
-use Rattle.host.proofs.aura0_request.Reads as reads
-use Rattle.host.proofs.aura0_request.Lts as lts
-use Rattle.host.proofs.code.Reads as code-reads
-use Rattle.request.proofs.request.Reads as request-reads
 
 abbrev lent-here : tie.Start → Lent
 lent-here s = lent-of (s .args .signature .now) (s .args .n) (length (s .args .workspace .now))
