@@ -38,6 +38,7 @@ enum {
 // The kinds of records.
 enum { AURA0_RULE = 1, AURA0_SAY = 2, AURA0_GRANT = 3, AURA0_RECEIPT = 4 };
 
+// The two parts of an answer, for lists of fewer than 4294967296 words together.
 static inline uint32_t aura0_number(uint64_t answer) { return (uint32_t)(answer >> 32); }
 static inline uint32_t aura0_place(uint64_t answer) { return (uint32_t)answer; }
 
