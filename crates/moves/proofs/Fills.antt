@@ -24,6 +24,10 @@ use Rattle.words.proofs.Lists.{written-set, written-node, length-written}
 use Rattle.words.proofs.Places.{at-head, part-is, at-left, at-right, size-pos, size-is, is-at, payload, deeper}
 use Rattle.moves.proofs.Shifts.{size-shift}
 
+-- r and new are what filling answers and writes, for any term and filler that stand there
+abbrev pub Fills : List ℕ → ℕ → ℕ → List ℕ → List ℕ → ℕ → List ℕ → Filled → Type 0
+Fills ws at c fs old to new r = (t e : Term) → At ws at t → Is fs e → FilledTo t (fillAt c e t) at old to new r
+
 -- ---- answers
 
 pub done : (t u : Term) (at : ℕ) (old : List ℕ) (to : ℕ) (new : List ℕ) (next end : ℕ) → next ≡ at + size t → end ≡ to + size u → end ≤ length old → new ≡ written old to (encode u) → FilledTo t u at old to new (Done next end)

@@ -76,34 +76,45 @@ pub fn fill_into(
     requires { ⌜ (to ≤ length (now out)) × Fillable (now src) at c (now filler) ⌝ }
     ensures { λ r. ⌜ ((t e : Term) → At (now (src .entry)) at t → Is (now (filler .entry)) e → FilledTo t (fillAt c e t) at (now (out .entry)) to (now (out .exit)) r) ⌝ }
 {
-    let word = src[at];
-    let k = kind(word);
-    if k == VARIABLE {
-        return fill_variable(src, at, c, filler, out, to);
-    }
-    if k == SIGN {
-        // a signed proposition is closed, and is left unchanged
-        let next = skip(src, at);
-        let n = next - at;
-        if out.len() - to < n {
+    let mut start = at;
+    let mut depth = c;
+    let mut place = to;
+    loop {
+        let word = src[start];
+        let k = kind(word);
+        if k == VARIABLE {
+            return fill_variable(src, start, depth, filler, out, place);
+        }
+        if k == SIGN {
+            // a signed proposition is closed, and is left unchanged
+            let next = skip(src, start);
+            let n = next - start;
+            if out.len() - place < n {
+                return Filled::Over;
+            }
+            copy(src, start, n, out, place);
+            return Filled::Done {
+                next,
+                end: place + n,
+            };
+        }
+        if out.len() <= place {
             return Filled::Over;
         }
-        copy(src, at, n, out, to);
-        return Filled::Done { next, end: to + n };
-    }
-    if out.len() <= to {
-        return Filled::Over;
-    }
-    out[to] = word;
-    if k == ATOM {
-        return Filled::Done {
-            next: at + 1,
-            end: to + 1,
+        out[place] = word;
+        if k == ATOM {
+            return Filled::Done {
+                next: start + 1,
+                end: place + 1,
+            };
+        }
+        let first = fill_into(src, start + 1, depth, filler, out, place + 1);
+        let Filled::Done { next, end } = first else {
+            return first;
         };
+        // the second child is filled in the node's place
+        start = next;
+        depth += k - NODE;
+        place = end;
     }
-    let first = fill_into(src, at + 1, c, filler, out, to + 1);
-    let Filled::Done { next, end } = first else {
-        return first;
-    };
-    fill_into(src, next, c + (k - NODE), filler, out, end)
 }

@@ -107,14 +107,14 @@ module _ (proof ws : List ℕ) (at next n m end : ℕ) (d C e E : Term) (j : App
     filled-type : (o : Result Term) → measured at (fill C e) ≡ o → applied at d C e E ≡ o
     filled-type o q = pass condition-fails at (same-yes domain-is) q
 
-    module _ (zeros filled : List ℕ) (r : Filled) (l : length zeros ≡ most-type-words) (f : FilledTo C (fillAt 0 e C) (1 + m) zeros 0 filled r) where
-      pub apply-over : r ≡ Over → Formed (applied at d C e E) end ws ws (Refused type-too-long at)
-      apply-over o =
+    module _ (zeros filled : List ℕ) (r : Filled) (f : FilledTo C (fillAt 0 e C) (1 + m) zeros 0 filled r) where
+      pub apply-over : length zeros ≡ most-type-words → r ≡ Over → Formed (applied at d C e E) end ws ws (Refused type-too-long at)
+      apply-over l o =
           let g = over-is C (fillAt 0 e C) (1 + m) 0 (length zeros) r (f .answer) o in
           refuses _ type-too-long at end ws (filled-type _ (measured-long at (fill C e) (omega arith)))
 
-      pub apply-done : (new : List ℕ) (k words : ℕ) → r ≡ Done k words → new ≡ written ws 0 (take words (drop 0 filled)) → Formed (applied at d C e E) end ws new (Typed words end)
-      apply-done new k words o c =
+      pub apply-done : length zeros ≤ most-type-words → (new : List ℕ) (k words : ℕ) → r ≡ Done k words → new ≡ written ws 0 (take words (drop 0 filled)) → Formed (applied at d C e E) end ws new (Typed words end)
+      apply-done l new k words o c =
           let was = done-is C (fillAt 0 e C) (1 + m) 0 (length zeros) k words r (f .answer) o in
           let s : words ≡ size (fillAt 0 e C) = let x : words ≡ 0 + size (fillAt 0 e C) = was .end-is in omega arith in
           let fits = was .fits in

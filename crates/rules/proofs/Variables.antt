@@ -14,9 +14,10 @@ use mir.Val.{SFits, toZ, ofZ}
 use mir.Facts.{toZ-ofZ, toZ-pos}
 use Rattle.logic.specs.Limits.{payloads, most-type-words}
 use Rattle.logic.specs.Refusals.{unbound-variable, type-too-long}
-use Rattle.logic.specs.Result.{_>>=_, known, pick}
+use Rattle.logic.specs.Result.{Result, ok, _>>=_, known, pick}
 use Rattle.logic.specs.Term.{Term, encode, size}
 use Rattle.logic.specs.Move.{shift, raise}
+use Rattle.logic.specs.Reading.{PlainType}
 use Rattle.logic.specs.Infer.{measured}
 use Rattle.words.specs.Place.{At, Is, written}
 use Rattle.words.specs.Lookup.{partOf}
@@ -28,6 +29,7 @@ use Rattle.rules.specs.Rule.{variable-type}
 use Rattle.rules.specs.Scope.{tail, scope-words, entry-head}
 use Rattle.rules.specs.Form.{Formed}
 use Rattle.rules.specs.Variable.{Found, Raises}
+use Rattle.rules.specs.declared.derivation.Derivation.{Derivation}
 use Rattle.rules.specs.declared.derivation.Derivation.the-variants.{Typed, Refused}
 use Rattle.rules.proofs.Fronts.{measured-fits, measured-long, refuses, writes}
 use Rattle.rules.proofs.Results.{part-is}
@@ -127,20 +129,22 @@ module _ {proof ws : List ℕ} {kept n : ℕ} {Γ : List Term} (at : ℕ) (e : E
       subst (λ (x : List ℕ). Is x (e .type)) (sym p)
       (part-is (pick b ws proof) from (from + getD ws (length ws - kept + 2) 0) (e .type) (subst (λ (i : ℕ). At (pick b ws proof) i (e .type)) (sym f) (e .here)) (ap (λ (k : ℕ). from + k) (e .type-words)))
 
-  pub variable-found : {z : ℤ} {part zeros raised new : List ℕ} {w : ℕ} → getD ws (length ws - kept + 2) 0 ≤ most-type-words → z ≡ pos (suc n) → Is part (e .type)
-      → ((t : Term) → At part 0 t → Shifted t 0 z zeros 0 raised w) → new ≡ written ws 0 (take w raised) → Raises Γ n → Formed (variable-type Γ at n) (at + 1) ws new (Typed w (at + 1))
-  variable-found {z} {part} {zeros} {raised} {new} {w} l y i f c h =
+  pub variable-found : {part new : List ℕ} {r : Derivation} → getD ws (length ws - kept + 2) 0 ≤ most-type-words → Is part (e .type)
+      → ((A : Term) → Is part A → PlainType (raise (suc n) A) → Formed (ok (raise (suc n) A)) (at + 1) ws new r) → Raises Γ n → Formed (variable-type Γ at n) (at + 1) ws new r
+  variable-found {part} {new} {r} l i f h =
       let A : Term = e .type in
-      let s = f A (is-at i) in
-      let r : size (raise (suc n) (e .type)) ≡ getD ws (length ws - kept + 2) 0 = raised-words in
+      let s : size (raise (suc n) (e .type)) ≡ getD ws (length ws - kept + 2) 0 = raised-words in
       let t : getD ws (length ws - kept + 2) 0 ≡ size A = e .type-words in
-      writes (variable-type Γ at n) (raise (suc n) A) w (at + 1) ws ws new
-      (variable-is ∙ measured-fits at (raise (suc n) A) (omega arith))
-      (s .count ∙ sym (size-shift 0 (pos (suc n)) A))
-      (omega arith)
-      (h A (e .known) (omega arith))
-      refl
-      (c ∙ ap (written ws 0) (written-front zeros raised (encode (shift 0 z A)) w (s .words) (s .count ∙ sym (length-shift 0 z A)) ∙ ap (λ (v : ℤ). encode (shift 0 v A)) y))
+      subst (λ (o : Result Term). Formed o (at + 1) ws new r) (sym (variable-is ∙ measured-fits at (raise (suc n) A) (omega arith))) (f A i (h A (e .known) (omega arith)))
+
+-- the raised type's words were written at the front
+pub raised-front : {z : ℤ} {ws part zeros raised new : List ℕ} {n w : ℕ} (at : ℕ) (A : Term) → size A ≤ most-type-words → z ≡ pos (suc n) → Is part A
+    → ((t : Term) → At part 0 t → Shifted t 0 z zeros 0 raised w) → new ≡ written ws 0 (take w raised) → PlainType (raise (suc n) A) → Formed (ok (raise (suc n) A)) (at + 1) ws new (Typed w (at + 1))
+raised-front {z} {ws} {part} {zeros} {raised} {new} {n} {w} at A l y i f c h =
+    let s = f A (is-at i) in
+    let r : size (raise (suc n) A) ≡ size A = size-shift 0 (pos (suc n)) A in
+    writes (ok (raise (suc n) A)) (raise (suc n) A) w (at + 1) ws ws new refl (s .count ∙ sym r) (omega arith) h refl
+    (c ∙ ap (written ws 0) (written-front zeros raised (encode (shift 0 z A)) w (s .words) (s .count ∙ sym (length-shift 0 z A)) ∙ ap (λ (v : ℤ). encode (shift 0 v A)) y))
 
 -- ---- the machine's sum of a variable's number and a small amount
 

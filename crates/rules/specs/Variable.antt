@@ -1,6 +1,7 @@
 -- The search for a variable's binder, and its type.
 use Prim.Native.Nat.{ℕ, suc, _+_, _≤_, _<_}
 use mathlib.Core.Path.{_≡_}
+use mathlib.Core.Bool.{Bool}
 use mathlib.Core.List.{List}
 use mathlib.Core.Option.{some}
 use lib.ListN.{length, drop, getElem?}
@@ -8,6 +9,8 @@ use Rattle.logic.specs.Limits.{payloads, most-words, most-nesting, most-type-wo
 use Rattle.logic.specs.Term.{Term, size}
 use Rattle.logic.specs.Move.{raise}
 use Rattle.logic.specs.Reading.{PlainType}
+use Rattle.words.specs.Place.{Is}
+use Rattle.words.specs.Lookup.{partOf, Within}
 use Rattle.rules.specs.Scope.{scope-words, Binders}
 use Rattle.rules.specs.Form.{front-words}
 
@@ -38,3 +41,15 @@ pub record InScope (proof ws : List ℕ) (floor used n at : ℕ) : Type 0 where
 -- a binder's type is a plain term where the variable stands
 abbrev pub Raises : List Term → ℕ → Type 0
 Raises Γ n = (A : Term) → getElem? Γ n ≡ some A → size A ≤ most-type-words → PlainType (raise (suc n) A)
+
+-- the words of a binder's type, in the proof or in the workspace, and room for them
+pub record Raisable (proof ws : List ℕ) (inHeld : Bool) (from words n at room : ℕ) : Type 0 where
+  pub type : Term
+  pub part : Is (partOf proof ws inHeld from (from + words)) type
+  pub inside : Within proof ws inHeld from (from + words)
+  pub type-words : words ≡ size type
+  pub small : words ≤ most-type-words
+  pub fits : words ≤ room
+  pub number : n < payloads
+  pub place : at < most-words
+  pub front : front-words ≤ length ws

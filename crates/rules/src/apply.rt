@@ -1,5 +1,6 @@
 // The result of an App.
 use crate::derivation::Derivation;
+use crate::front::SMALL;
 use logic::limit::MOST_TYPE_WORDS;
 use logic::refusal::CONDITION_FAILS;
 use logic::refusal::TYPE_TOO_LONG;
@@ -41,19 +42,28 @@ pub fn apply(
             place: at,
         };
     }
-    let mut filled = [0u32; MOST_TYPE_WORDS];
-    let done = fill_into(&ws[..], body, 0, &proof[next..end], &mut filled, 0);
-    match done {
-        Filled::Over => Derivation::Refused {
+    let filler = &proof[next..end];
+    let mut small = [0u32; SMALL];
+    let short = fill_into(&ws[..], body, 0, filler, &mut small, 0);
+    if let Filled::Done {
+        next: _,
+        end: words,
+    } = short {
+        copy(&small, 0, words, ws, 0);
+        return Derivation::Typed { words, end };
+    }
+    let mut large = [0u32; MOST_TYPE_WORDS];
+    let long = fill_into(&ws[..], body, 0, filler, &mut large, 0);
+    let Filled::Done {
+        next: _,
+        end: words,
+    } = long
+    else {
+        return Derivation::Refused {
             number: TYPE_TOO_LONG,
             place: at,
-        },
-        Filled::Done {
-            next: _,
-            end: words,
-        } => {
-            copy(&filled, 0, words, ws, 0);
-            Derivation::Typed { words, end }
-        }
-    }
+        };
+    };
+    copy(&large, 0, words, ws, 0);
+    Derivation::Typed { words, end }
 }

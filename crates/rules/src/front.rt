@@ -7,6 +7,9 @@ ghost use Rattle.logic.specs.Infer.{same};
 ghost use Rattle.logic.proofs.Words.{InRangeAtom};
 ghost use Rattle.words.specs.Typed.{TypeAt};
 
+// The words of a local buffer for a type that is not long: local buffers are cleared only where they must be.
+pub const SMALL: usize = 32;
+
 // Whether the type of n words at the front is the one word given.
 pub fn front_is(ws: &[u32], n: usize, word: u32) -> bool
     requires { ⌜ 0 < length (now ws) ⌝ }

@@ -1,18 +1,25 @@
 // The binders in scope, whose entries are kept at the end of the workspace, the nearest first.
 use crate::derivation::Derivation;
+use crate::front::SMALL;
 use logic::limit::MOST_TYPE_WORDS;
 use logic::refusal::TYPE_TOO_LONG;
 use logic::refusal::UNBOUND_VARIABLE;
 use words::lookup::lookup;
 use words::part::copy;
 use moves::shift::shift_into;
-ghost use Prim.Native.Nat.{ℕ, _+_, _<_};
+ghost use Prim.Native.Nat.{ℕ, suc, _+_, _<_};
 ghost use mathlib.Core.List.{List};
+ghost use lib.ListN.{length};
+ghost use Rattle.logic.specs.Result.{ok};
 ghost use Rattle.logic.specs.Term.{Term};
+ghost use Rattle.logic.specs.Move.{raise};
+ghost use Rattle.logic.specs.Reading.{PlainType};
+ghost use Rattle.words.specs.Place.{Is};
+ghost use Rattle.words.specs.Lookup.{partOf};
 ghost use Rattle.rules.specs.Rule.{variable-type};
 ghost use Rattle.rules.specs.Scope.{scope-words, Binders};
 ghost use Rattle.rules.specs.Form.{Formed};
-ghost use Rattle.rules.specs.Variable.{Walkable, Found, InScope, Raises};
+ghost use Rattle.rules.specs.Variable.{Walkable, Found, InScope, Raises, Raisable};
 
 // The first words of an entry: how many words the entry has, where the type stands in the proof, and how many words the type has. Where the entry has more, the type stands at its end.
 pub const ENTRY_HEAD: usize = 3;
@@ -32,6 +39,27 @@ fn binder(ws: &[u32], floor: usize, used: usize, n: u32) -> usize
         left = left - 1;
     }
     floor
+}
+
+// The type of `size` words that stands at `from`, raised to where variable n stands, by way of a buffer to the front of the workspace.
+fn raised(
+    proof: &[u32],
+    ws: &mut [u32],
+    in_workspace: bool,
+    from: usize,
+    size: usize,
+    n: u32,
+    at: usize,
+    buffer: &mut [u32],
+) -> Derivation
+    requires { ⌜ Raisable (now proof) (now ws) «in_workspace» from size n at (length (now buffer)) ⌝ }
+    ensures { λ r. ⌜ ((A : Term) → Is (partOf (now (proof .entry)) (now (ws .entry)) «in_workspace» from (from + size)) A → PlainType (raise (suc n) A) → Formed (ok (raise (suc n) A)) (at + 1) (now (ws .entry)) (now (ws .exit)) r) ⌝ }
+{
+    // "A binder's type stands either in the proof's words or in the workspace"
+    let part = lookup(proof, &ws[..], in_workspace, from, from + size);
+    let words = shift_into(part, 0, 0, n as i32 + 1, buffer, 0);
+    copy(&buffer[..], 0, words, ws, 0);
+    Derivation::Typed { words, end: at + 1 }
 }
 
 // The type of variable n, raised to where the variable stands, at the front of the workspace.
@@ -69,10 +97,11 @@ pub fn variable(
     } else {
         start
     };
-    // "A binder's type stands either in the proof's words or in the workspace"
-    let part = lookup(proof, &ws[..], in_workspace, from, from + size);
-    let mut raised = [0u32; MOST_TYPE_WORDS];
-    let words = shift_into(part, 0, 0, n as i32 + 1, &mut raised, 0);
-    copy(&raised, 0, words, ws, 0);
-    Derivation::Typed { words, end: at + 1 }
+    // local buffers are cleared only where they must be
+    if size <= SMALL {
+        let mut small = [0u32; SMALL];
+        return raised(proof, ws, in_workspace, from, size, n, at, &mut small);
+    }
+    let mut large = [0u32; MOST_TYPE_WORDS];
+    raised(proof, ws, in_workspace, from, size, n, at, &mut large)
 }

@@ -7,7 +7,7 @@ use borrow.Author.Needs.{needs}
 use Rattle.logic.specs.Move.{fillAt}
 use Rattle.logic.specs.Limits.{most-words, most-type-words}
 use Rattle.logic.specs.Term.{Term, size}
-use Rattle.moves.specs.Fill.{FilledTo}
+use Rattle.moves.specs.Fill.{Fillable, FilledTo}
 use Rattle.moves.proofs.Fills.{done-is}
 use Rattle.words.proofs.Places.{at-end, size-is}
 use Rattle.rules.specs.Form.{front-words}
@@ -36,12 +36,30 @@ sizes s =
 agree : (c : tie.Else2) → take (1 + c .before .before .before .before .before .before .before .before .args .m - 1) (drop 1 (c .before .before .before .before .before .before .before .before .args .ws .now)) ≡ take (c .before .before .before .before .before .before .before .before .args .n + c .before .before .before .before .before .before .before .before .args .m - c .before .before .before .before .before .before .before .before .args .n) (drop (c .before .before .before .before .before .before .before .before .args .n) (c .before .before .before .before .before .before .before .before .args .ws .now))
 agree c = c .before .same .ensures .0 (not-false (c .before .same .result) (c .if2 .left))
 
+-- the body and the argument stand where filling reads them
+fillable : (c : tie.Else2) → Fillable (c .before .before .before .before .before .before .before .before .args .ws .now) (1 + c .before .before .before .before .before .before .before .before .args .m) 0 (take (c .before .before .before .before .before .before .before .before .args .end - c .before .before .before .before .before .before .before .before .args .next) (drop (c .before .before .before .before .before .before .before .before .args .next) (c .before .before .before .before .before .before .before .before .args .proof .now)))
+fillable c =
+    let s = c .before .before .before .before .before .before .before .before in
+    let a = s .args in
+    let p = s .pre in
+    let z = sizes s in
+    let q = agree c in
+    let i = argument-is (a .proof .now) (a .ws .now) (a .at) (a .next) (a .n) (a .m) (a .end) (p .d) (p .C) (p .e) (p .E) (p .applies) q in
+    let l = size-is _ (p .e) i in
+    record { term = p .C; here = body-at (a .proof .now) (a .ws .now) (a .at) (a .next) (a .n) (a .m) (a .end) (p .d) (p .C) (p .e) (p .E) (p .applies) q; deep = omega (arith, z); filler = p .e; lends = i; short = omega (arith, l, z) }
+
 -- what filling says, of any types that stand there
-filled : (c : tie.After-fill-into) (d C e E : Term) → Applies (c .before .before .before .before .before .before .before .before .before .before .before .before .args .proof .now) (c .before .before .before .before .before .before .before .before .before .before .before .before .args .ws .now) (c .before .before .before .before .before .before .before .before .before .before .before .before .args .next) (c .before .before .before .before .before .before .before .before .before .before .before .before .args .n) (c .before .before .before .before .before .before .before .before .before .before .before .before .args .m) (c .before .before .before .before .before .before .before .before .before .before .before .before .args .end) d C e E → FilledTo C (fillAt 0 e C) (1 + c .before .before .before .before .before .before .before .before .before .before .before .before .args .m) (replicate most-type-words 0) 0 (c .fill-into .last .1 .1 .1 .1 .0) (c .fill-into .result)
+filled : (c : tie.After-fill-into) (d C e E : Term) → Applies (c .before .before .before .before .before .before .before .before .before .before .before .before .args .proof .now) (c .before .before .before .before .before .before .before .before .before .before .before .before .args .ws .now) (c .before .before .before .before .before .before .before .before .before .before .before .before .args .next) (c .before .before .before .before .before .before .before .before .before .before .before .before .args .n) (c .before .before .before .before .before .before .before .before .before .before .before .before .args .m) (c .before .before .before .before .before .before .before .before .before .before .before .before .args .end) d C e E → FilledTo C (fillAt 0 e C) (1 + c .before .before .before .before .before .before .before .before .before .before .before .before .args .m) (replicate 32 0) 0 (c .fill-into .last .1 .1 .1 .1 .0) (c .fill-into .result)
 filled c d C e E j =
     let a = c .before .before .before .before .before .before .before .before .before .before .before .before .args in
     let q = agree (c .before .before .before .before) in
     c .fill-into .ensures C e (body-at (a .proof .now) (a .ws .now) (a .at) (a .next) (a .n) (a .m) (a .end) d C e E j q) (argument-is (a .proof .now) (a .ws .now) (a .at) (a .next) (a .n) (a .m) (a .end) d C e E j q)
+
+filled-long : (c : tie.After-fill-into2) (d C e E : Term) → Applies (c .before .before .before .before .before .before .before .before .before .before .before .before .before .before .before .before .before .before .args .proof .now) (c .before .before .before .before .before .before .before .before .before .before .before .before .before .before .before .before .before .before .args .ws .now) (c .before .before .before .before .before .before .before .before .before .before .before .before .before .before .before .before .before .before .args .next) (c .before .before .before .before .before .before .before .before .before .before .before .before .before .before .before .before .before .before .args .n) (c .before .before .before .before .before .before .before .before .before .before .before .before .before .before .before .before .before .before .args .m) (c .before .before .before .before .before .before .before .before .before .before .before .before .before .before .before .before .before .before .args .end) d C e E → FilledTo C (fillAt 0 e C) (1 + c .before .before .before .before .before .before .before .before .before .before .before .before .before .before .before .before .before .before .args .m) (replicate most-type-words 0) 0 (c .fill-into2 .last .1 .1 .1 .1 .0) (c .fill-into2 .result)
+filled-long c d C e E j =
+    let a = c .before .before .before .before .before .before .before .before .before .before .before .before .before .before .before .before .before .before .args in
+    let q = agree (c .before .before .before .before .before .before .before .before .before .before) in
+    c .fill-into2 .ensures C e (body-at (a .proof .now) (a .ws .now) (a .at) (a .next) (a .n) (a .m) (a .end) d C e E j q) (argument-is (a .proof .now) (a .ws .now) (a .at) (a .next) (a .n) (a .m) (a .end) d C e E j q)
 
 add-body : tie.Need-add-body
 add-body c = search needs
@@ -84,37 +102,26 @@ returns-2 c =
     let a = c .before .before .before .before .before .before .before .before .args in
     λ d C e E j. apply-differs (a .proof .now) (a .ws .now) (a .at) (a .next) (a .n) (a .m) (a .end) d C e E j (c .before .same .result) (c .if2 .taken) (c .before .same .ensures .1)
 
-mul-fill-into : tie.Need-mul-fill-into
-mul-fill-into c = let z = sizes (c .before .before .before .before .before .before .before .before .before) in omega arith
+mul-filler : tie.Need-mul-filler
+mul-filler c = let z = sizes (c .before .before .before .before .before .before .before .before) in omega arith
 
-sub-fill-into : tie.Need-sub-fill-into
-sub-fill-into c = search needs
+sub-filler : tie.Need-sub-filler
+sub-filler c = search needs
 
-part-fill-into-start : tie.Need-part-fill-into-start
-part-fill-into-start c = search needs
+part-filler-start : tie.Need-part-filler-start
+part-filler-start c = search needs
 
-part-fill-into-end : tie.Need-part-fill-into-end
-part-fill-into-end c = let z = sizes (c .before .before .before .before .before .before .before .before .before) in omega (arith, z .argument)
+part-filler-end : tie.Need-part-filler-end
+part-filler-end c = let z = sizes (c .before .before .before .before .before .before .before .before) in omega (arith, z .argument)
 
 slice-aggregate-fill-into : tie.Need-slice-aggregate-fill-into
 slice-aggregate-fill-into c = search needs
 
 fill-into-requires : tie.Need-fill-into-requires
-fill-into-requires c κs =
-    let s = c .before .before .before .before .before .before .before .before .before .before .before in
-    let a = s .args in
-    let p = s .pre in
-    let z = sizes s in
-    let q = agree (c .before .before .before) in
-    let i = argument-is (a .proof .now) (a .ws .now) (a .at) (a .next) (a .n) (a .m) (a .end) (p .d) (p .C) (p .e) (p .E) (p .applies) q in
-    let l = size-is _ (p .e) i in
-    (omega arith, record { term = p .C; here = body-at (a .proof .now) (a .ws .now) (a .at) (a .next) (a .n) (a .m) (a .end) (p .d) (p .C) (p .e) (p .E) (p .applies) q; deep = omega (arith, z); filler = p .e; lends = i; short = omega (arith, l, z) })
+fill-into-requires c κs = (omega arith, fillable (c .before .before .before))
 
-enum-told : tie.Need-enum-told
-enum-told c = search needs
-
-enum-known-done : tie.Need-enum-known-done
-enum-known-done c = search needs
+enum-known-short : tie.Need-enum-known-short
+enum-known-short c = search needs
 
 slice-aggregate-copy : tie.Need-slice-aggregate-copy
 slice-aggregate-copy c = search needs
@@ -124,8 +131,8 @@ copy-requires c κs =
     let s = c .before .before .before .before .before .before .before .before .before .before .before .before .before .before .before .before .before .before in
     let p = s .pre in
     let f = filled (c .before .before .before .before .before .before) (p .d) (p .C) (p .e) (p .E) (p .applies) in
-    let was = done-is (p .C) (fillAt 0 (p .e) (p .C)) (1 + s .args .m) 0 _ _ _ _ (f .answer) (c .before .before .before .done .given .1) in
-    let w : c .before .before .before .done .given .0 .1 .0 ≤ most-type-words = was .fits in
+    let was = done-is (p .C) (fillAt 0 (p .e) (p .C)) (1 + s .args .m) 0 _ _ _ _ (f .answer) (c .before .before .before .short .given .1) in
+    let w : c .before .before .before .short .given .0 .1 .0 ≤ 32 = was .fits in
     let k = c .before .before .before .before .before .before .fill-into .kept .1 .1 .1 .1 .0 in
     let z = sizes s in
     (omega (arith, w, k), omega (arith, w, z))
@@ -135,8 +142,23 @@ same-length-2 c = search needs
 
 returns-3 : tie.Need-returns-3
 returns-3 c =
-    let a = c .before .before .before .before .before .before .before .before .before .before .before .before .before .before .before .args in
-    λ d C e E j. apply-over (a .proof .now) (a .ws .now) (a .at) (a .next) (a .n) (a .m) (a .end) d C e E j (agree (c .before .before .before .before .before .before .before)) _ _ _ refl (filled (c .before .before .before) d C e E j) (c .enum-told .given .1)
+    let a = c .before .before .before .before .before .before .before .before .before .before .before .before .before .before .before .before .before .before .before .before .before .args in
+    λ d C e E j. apply-done (a .proof .now) (a .ws .now) (a .at) (a .next) (a .n) (a .m) (a .end) d C e E j (agree (c .before .before .before .before .before .before .before .before .before .before .before .before .before)) _ _ _ (filled (c .before .before .before .before .before .before .before .before .before) d C e E j) (omega arith) _ _ (c .before .before .before .before .before .before .short .given .0 .1 .0) (c .before .before .before .before .before .before .short .given .1) (c .before .before .copy .ensures)
+
+enum-told : tie.Need-enum-told
+enum-told c = search needs
+
+slice-aggregate-fill-into-2 : tie.Need-slice-aggregate-fill-into-2
+slice-aggregate-fill-into-2 c = search needs
+
+fill-into-requires-2 : tie.Need-fill-into-requires-2
+fill-into-requires-2 c κs = (omega arith, fillable (c .before .before .before .before .before .before .before .before .before))
+
+enum-known-long : tie.Need-enum-known-long
+enum-known-long c = search needs
+
+enum-told-2 : tie.Need-enum-told-2
+enum-told-2 c = search needs
 
 same-length-3 : tie.Need-same-length-3
 same-length-3 c = search needs
@@ -144,7 +166,29 @@ same-length-3 c = search needs
 returns-4 : tie.Need-returns-4
 returns-4 c =
     let a = c .before .before .before .before .before .before .before .before .before .before .before .before .before .before .before .before .before .before .before .before .before .args in
-    λ d C e E j. apply-done (a .proof .now) (a .ws .now) (a .at) (a .next) (a .n) (a .m) (a .end) d C e E j (agree (c .before .before .before .before .before .before .before .before .before .before .before .before .before)) _ _ _ refl (filled (c .before .before .before .before .before .before .before .before .before) d C e E j) _ _ (c .before .before .before .before .before .before .done .given .0 .1 .0) (c .before .before .before .before .before .before .done .given .1) (c .before .before .copy .ensures)
+    λ d C e E j. apply-over (a .proof .now) (a .ws .now) (a .at) (a .next) (a .n) (a .m) (a .end) d C e E j (agree (c .before .before .before .before .before .before .before .before .before .before .before .before .before)) _ _ _ (filled-long (c .before .before .before) d C e E j) refl (c .enum-told2 .given .1)
+
+slice-aggregate-copy-2 : tie.Need-slice-aggregate-copy-2
+slice-aggregate-copy-2 c = search needs
+
+copy-requires-2 : tie.Need-copy-requires-2
+copy-requires-2 c κs =
+    let s = c .before .before .before .before .before .before .before .before .before .before .before .before .before .before .before .before .before .before .before .before .before .before .before .before in
+    let p = s .pre in
+    let f = filled-long (c .before .before .before .before .before .before) (p .d) (p .C) (p .e) (p .E) (p .applies) in
+    let was = done-is (p .C) (fillAt 0 (p .e) (p .C)) (1 + s .args .m) 0 _ _ _ _ (f .answer) (c .before .before .before .long .given .1) in
+    let w : c .before .before .before .long .given .0 .1 .0 ≤ most-type-words = was .fits in
+    let k = c .before .before .before .before .before .before .fill-into2 .kept .1 .1 .1 .1 .0 in
+    let z = sizes s in
+    (omega (arith, w, k), omega (arith, w, z))
+
+same-length-4 : tie.Need-same-length-4
+same-length-4 c = search needs
+
+returns-5 : tie.Need-returns-5
+returns-5 c =
+    let a = c .before .before .before .before .before .before .before .before .before .before .before .before .before .before .before .before .before .before .before .before .before .before .before .before .before .before .before .args in
+    λ d C e E j. apply-done (a .proof .now) (a .ws .now) (a .at) (a .next) (a .n) (a .m) (a .end) d C e E j (agree (c .before .before .before .before .before .before .before .before .before .before .before .before .before .before .before .before .before .before .before)) _ _ _ (filled-long (c .before .before .before .before .before .before .before .before .before) d C e E j) (omega arith) _ _ (c .before .before .before .before .before .before .long .given .0 .1 .0) (c .before .before .before .before .before .before .long .given .1) (c .before .before .copy2 .ensures)
 
 pub apply-spec : {M : Type 1} → statement M
 apply-spec =
@@ -163,17 +207,25 @@ apply-spec =
     same-requires
     same-length
     returns-2
-    mul-fill-into
-    sub-fill-into
-    part-fill-into-start
-    part-fill-into-end
+    mul-filler
+    sub-filler
+    part-filler-start
+    part-filler-end
     slice-aggregate-fill-into
     fill-into-requires
-    enum-told
-    enum-known-done
+    enum-known-short
     slice-aggregate-copy
     copy-requires
     same-length-2
     returns-3
+    enum-told
+    slice-aggregate-fill-into-2
+    fill-into-requires-2
+    enum-known-long
+    enum-told-2
     same-length-3
-    returns-4)
+    returns-4
+    slice-aggregate-copy-2
+    copy-requires-2
+    same-length-4
+    returns-5)

@@ -1,19 +1,17 @@
-use Rattle.rules.proofs.Variables.{amount-fits, amount-is, amount-near, picked-true, picked-false, picked-length, Entry, entry-of, variable-unbound, variable-long, looked-up, variable-found}
+use Rattle.rules.proofs.Variables.{picked-true, picked-false, Entry, entry-of, variable-unbound, variable-long, looked-up, variable-found}
 use Rattle.rules.specs.Scope.{scope-words, entry-head, Binders}
-use Rattle.words.proofs.Places.{at-end, is-at}
+use Rattle.rules.specs.Variable.{Raisable}
+use Rattle.words.specs.Lookup.{partOf}
+use Rattle.words.proofs.Places.{at-end}
 use Rattle.words.specs.Place.{Is}
 use Rattle.logic.specs.Term.{Term}
 use Rattle.logic.specs.Result.{pick}
-use mir.Syntax.{w32}
-use mir.Val.{toZ, ofZ}
-use lib.IntN.{pos, _+ℤ_}
 use lib.Dec.{ltb}
 use lib.ListN.{length, getD}
 use mathlib.Core.List.{List}
 use mathlib.Core.Logic.{⊎-elim}
-use mathlib.Core.Path.{_≡_, ap, _∙_}
-use native.Mathlib.Numerals.{add-one}
-use Prim.Native.Nat.{suc, _+_, _-_}
+use mathlib.Core.Path.{_≡_, refl}
+use Prim.Native.Nat.{ℕ, _+_, _-_, _≤_}
 use native.Mathlib.Omega.{arith}
 use borrow.Author.Needs.{needs}
 use Rattle.rules.proofs.scope.variable.Statement.{statement}
@@ -32,15 +30,16 @@ entry c = entry-for c (c .before .before .before .before .before .pre .Γ) (c .b
 from-is : (c : tie.Joined3) → c .if3 .from ≡ pick (ltb entry-head (getD (c .before .before .before .before .before .before .before .before .before .before .args .ws .now) (length (c .before .before .before .before .before .before .before .before .before .before .args .ws .now) - c .before .before .before .before .before .before .binder .result) 0)) (length (c .before .before .before .before .before .before .before .before .before .before .args .ws .now) - c .before .before .before .before .before .before .binder .result + (getD (c .before .before .before .before .before .before .before .before .before .before .args .ws .now) (length (c .before .before .before .before .before .before .before .before .before .before .args .ws .now) - c .before .before .before .before .before .before .binder .result) 0 - getD (c .before .before .before .before .before .before .before .before .before .before .args .ws .now) (length (c .before .before .before .before .before .before .before .before .before .before .args .ws .now) - c .before .before .before .before .before .before .binder .result + 2) 0)) (getD (c .before .before .before .before .before .before .before .before .before .before .args .ws .now) (length (c .before .before .before .before .before .before .before .before .before .before .args .ws .now) - c .before .before .before .before .before .before .binder .result + 1) 0)
 from-is c = ⊎-elim (λ w. picked-true _ _ _ (w .0 .taken) (w .1)) (λ w. picked-false _ _ _ (w .0 .left) (w .1)) (c .if3 .came)
 
--- the part that was looked up is the type's words
-part : (c : tie.After-lookup) (Γ : List Term) (b : Binders (c .before .before .before .before .before .before .before .before .before .before .before .before .before .args .proof .now) (scope-words (c .before .before .before .before .before .before .before .before .before .before .before .before .before .args .floor) (c .before .before .before .before .before .before .before .before .before .before .before .before .before .args .used) (c .before .before .before .before .before .before .before .before .before .before .before .before .before .args .ws .now)) Γ) → Is (c .lookup .result .now) (entry-for (c .before .before .before .before .before .before .before .before) Γ b .type)
-part c Γ b =
-    let s = c .before .before .before .before .before .before .before .before .before .before .before .before .before in
-    looked-up (s .args .at) (entry-for (c .before .before .before .before .before .before .before .before) Γ b) (from-is (c .before .before .before)) (c .lookup .ensures)
+-- the part that is looked up is the type's words
+part : (c : tie.Joined3) (Γ : List Term) (b : Binders (c .before .before .before .before .before .before .before .before .before .before .args .proof .now) (scope-words (c .before .before .before .before .before .before .before .before .before .before .args .floor) (c .before .before .before .before .before .before .before .before .before .before .args .used) (c .before .before .before .before .before .before .before .before .before .before .args .ws .now)) Γ) → Is (partOf (c .before .before .before .before .before .before .before .before .before .before .args .proof .now) (c .before .before .before .before .before .before .before .before .before .before .args .ws .now) (ltb entry-head (getD (c .before .before .before .before .before .before .before .before .before .before .args .ws .now) (length (c .before .before .before .before .before .before .before .before .before .before .args .ws .now) - c .before .before .before .before .before .before .binder .result) 0)) (c .if3 .from) (c .if3 .from + getD (c .before .before .before .before .before .before .before .before .before .before .args .ws .now) (length (c .before .before .before .before .before .before .before .before .before .before .args .ws .now) - c .before .before .before .before .before .before .binder .result + 2) 0)) (entry-for (c .before .before .before .before .before) Γ b .type)
+part c Γ b = looked-up (c .before .before .before .before .before .before .before .before .before .before .args .at) (entry-for (c .before .before .before .before .before) Γ b) (from-is c) refl
 
--- an i32 that is handed on is read back from its bits
-amount : (s : tie.Start) → toZ w32 (ofZ w32 (toZ w32 (s .args .n) +ℤ pos 1)) ≡ pos (suc (s .args .n))
-amount s = amount-is (s .args .n) 1 (s .pre .number) (omega arith) ∙ ap pos (add-one (s .args .n))
+raisable : (c : tie.Joined3) (room : ℕ) → getD (c .before .before .before .before .before .before .before .before .before .before .args .ws .now) (length (c .before .before .before .before .before .before .before .before .before .before .args .ws .now) - c .before .before .before .before .before .before .binder .result + 2) 0 ≤ room → Raisable (c .before .before .before .before .before .before .before .before .before .before .args .proof .now) (c .before .before .before .before .before .before .before .before .before .before .args .ws .now) (ltb entry-head (getD (c .before .before .before .before .before .before .before .before .before .before .args .ws .now) (length (c .before .before .before .before .before .before .before .before .before .before .args .ws .now) - c .before .before .before .before .before .before .binder .result) 0)) (c .if3 .from) (getD (c .before .before .before .before .before .before .before .before .before .before .args .ws .now) (length (c .before .before .before .before .before .before .before .before .before .before .args .ws .now) - c .before .before .before .before .before .before .binder .result + 2) 0) (c .before .before .before .before .before .before .before .before .before .before .args .n) (c .before .before .before .before .before .before .before .before .before .before .args .at) room
+raisable c room l =
+    let s = c .before .before .before .before .before .before .before .before .before .before in
+    let e = entry (c .before .before .before .before .before) in
+    let f = from-is c in
+    record { type = e .type; part = part c (s .pre .Γ) (s .pre .binders); inside = (omega arith, omega (arith, at-end (e .here), e .type-words)); type-words = e .type-words; small = c .before .if2 .left; fits = l; number = s .pre .number; place = s .pre .place; front = omega (arith, s .pre .room) }
 
 binder-requires : tie.Need-binder-requires
 binder-requires c κs = let s = c .before .before .before in record { proof = s .args .proof .now; Γ = s .pre .Γ; binders = s .pre .binders; below = s .pre .below; inside = omega (arith, s .pre .room) }
@@ -103,54 +102,29 @@ sub-from c = let e = entry (c .before .before .before .before .before) in omega 
 add-from : tie.Need-add-from
 add-from c = let e = entry (c .before .before .before .before .before) in omega (arith, e .fits, e .inside)
 
-add-lookup : tie.Need-add-lookup
-add-lookup c =
-    let s = c .before .before .before .before .before .before .before .before .before .before .before .before in
-    let e = entry (c .before .before .before .before .before .before .before) in
-    let f = from-is (c .before .before) in
-    let l = picked-length (ltb entry-head (getD (s .args .ws .now) (length (s .args .ws .now) - c .before .before .before .before .before .before .before .before .binder .result) 0)) (s .args .ws .now) (s .args .proof .now) in
-    omega (arith, s .good, at-end (e .here), e .type-words)
+slice-aggregate-raised : tie.Need-slice-aggregate-raised
+slice-aggregate-raised c = search needs
 
-lookup-requires : tie.Need-lookup-requires
-lookup-requires c κs = let e = entry (c .before .before .before .before .before .before .before) in let f = from-is (c .before .before) in (omega arith, omega (arith, at-end (e .here), e .type-words))
-
-cast-shift-into : tie.Need-cast-shift-into
-cast-shift-into c = search needs
-
-add-shift-into : tie.Need-add-shift-into
-add-shift-into c = let s = c .before .before .before .before .before .before .before .before .before .before .before .before .before in amount-fits (s .args .n) _ (s .pre .number) (omega arith)
-
-slice-aggregate-shift-into : tie.Need-slice-aggregate-shift-into
-slice-aggregate-shift-into c = search needs
-
-shift-into-requires : tie.Need-shift-into-requires
-shift-into-requires c κs =
-    let s = c .before .before .before .before .before .before .before .before .before .before .before .before .before .before in
-    let e = entry (c .before .before .before .before .before .before .before .before .before) in
-    let n = s .pre .number in
-    (omega arith, record { term = e .type; here = is-at (part (c .before) (s .pre .Γ) (s .pre .binders)); fits = omega (arith, e .type-words, c .before .before .before .before .before .if2 .left); deep = omega (arith, e .type-words, c .before .before .before .before .before .if2 .left); near = amount-near (s .args .n) _ n (omega arith) })
-
-slice-aggregate-copy : tie.Need-slice-aggregate-copy
-slice-aggregate-copy c = search needs
-
-copy-requires : tie.Need-copy-requires
-copy-requires c κs =
-    let s = c .before .before .before .before .before .before .before .before .before .before .before .before .before .before .before .before .before .before in
-    let e = entry (c .before .before .before .before .before .before .before .before .before .before .before .before .before) in
-    let k = c .before .before .before .shift-into .ensures (e .type) (is-at (part (c .before .before .before .before .before) (s .pre .Γ) (s .pre .binders))) .count in
-    let l = c .before .before .before .shift-into .kept .1 .1 .1 .1 .0 in
-    omega (arith, s .pre .room, e .type-words, c .before .before .before .before .before .before .before .before .before .if2 .left)
-
-add-t23 : tie.Need-add-t23
-add-t23 c = search needs
+raised-requires : tie.Need-raised-requires
+raised-requires c κs = raisable (c .before .before .before) 32 (c .before .before .if4 .taken)
 
 same-length-3 : tie.Need-same-length-3
 same-length-3 c = search needs
 
 returns-3 : tie.Need-returns-3
-returns-3 c =
-    let s = c .before .before .before .before .before .before .before .before .before .before .before .before .before .before .before .before .before .before .before .before .before in
-    λ Γ b r. variable-found (s .args .at) (entry-for (c .before .before .before .before .before .before .before .before .before .before .before .before .before .before .before .before) Γ b) (c .before .before .before .before .before .before .before .before .before .before .before .before .if2 .left) (amount s) (part (c .before .before .before .before .before .before .before .before) Γ b) (c .before .before .before .before .before .before .shift-into .ensures) (c .before .before .copy .ensures) r
+returns-3 c = λ Γ b r. variable-found (c .before .before .before .before .before .before .before .before .before .before .before .before .before .before .before .before .before .args .at) (entry-for (c .before .before .before .before .before .before .before .before .before .before .before .before) Γ b) (c .before .before .before .before .before .before .before .before .if2 .left) (part (c .before .before .before .before .before .before .before) Γ b) (c .before .before .before .raised .ensures) r
+
+slice-aggregate-raised-2 : tie.Need-slice-aggregate-raised-2
+slice-aggregate-raised-2 c = search needs
+
+raised-requires-2 : tie.Need-raised-requires-2
+raised-requires-2 c κs = raisable (c .before .before .before) _ (c .before .before .before .before .if2 .left)
+
+same-length-4 : tie.Need-same-length-4
+same-length-4 c = search needs
+
+returns-4 : tie.Need-returns-4
+returns-4 c = λ Γ b r. variable-found (c .before .before .before .before .before .before .before .before .before .before .before .before .before .before .before .before .before .args .at) (entry-for (c .before .before .before .before .before .before .before .before .before .before .before .before) Γ b) (c .before .before .before .before .before .before .before .before .if2 .left) (part (c .before .before .before .before .before .before .before) Γ b) (c .before .before .before .raised2 .ensures) r
 
 pub variable-spec : {M : Type 1} → statement M
 variable-spec =
@@ -175,14 +149,11 @@ variable-spec =
     returns-2
     sub-from
     add-from
-    add-lookup
-    lookup-requires
-    cast-shift-into
-    add-shift-into
-    slice-aggregate-shift-into
-    shift-into-requires
-    slice-aggregate-copy
-    copy-requires
-    add-t23
+    slice-aggregate-raised
+    raised-requires
     same-length-3
-    returns-3)
+    returns-3
+    slice-aggregate-raised-2
+    raised-requires-2
+    same-length-4
+    returns-4)
