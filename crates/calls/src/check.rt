@@ -15,7 +15,7 @@ ghost use Rattle.calls.specs.Answers.{Handed};
 ghost use Rattle.calls.specs.Shared.{lent-of};
 
 // Tests 1 to 12 and 14. The type stands at the front of the workspace.
-fn judge(sig: &[u32], n: u32, register: &[u32], term: &[u32], ws: &mut [u32]) -> Derivation
+pub fn judge(sig: &[u32], n: u32, register: &[u32], term: &[u32], ws: &mut [u32]) -> Derivation
     ensures { λ r. ⌜ Judged (check-call (lent-of (now (sig .entry)) n (length (now (ws .entry)))) (now (register .entry)) (now (term .entry))) (length (now (term .entry))) (now (ws .exit)) r ⌝ }
 {
     let mut table = [0u32; 256];

@@ -1,0 +1,118 @@
+-- Numbers and places as one number: they fit, and the number is the definition's.
+use Prim.Native.Nat.{ℕ, _+_, _*_, _≤_, _<_}
+use native.Mathlib.Omega.{arith}
+use mathlib.Core.Path.{_≡_, refl, sym, ap, _∙_}
+use mathlib.Core.Bool.{Bool, true, false}
+use mathlib.Core.List.{List}
+use lib.ListN.{length}
+use lib.Seq.{length-take-le}
+use Rattle.logic.specs.Refusals.{past-last-record}
+use Rattle.logic.specs.Result.{Result, ok, refused}
+use Rattle.logic.specs.Term.{Term}
+use Rattle.logic.proofs.Basics.{clash}
+use Rattle.rules.specs.declared.derivation.Derivation.{Derivation}
+use Rattle.rules.specs.declared.derivation.Derivation.the-variants.{Typed, Refused}
+use Rattle.rules.specs.declared.derivation.Verdict.{Verdict}
+use Rattle.rules.specs.declared.derivation.Verdict.the-variants.{Passed, Fault}
+use Rattle.typing.specs.Check.{Judged, verdict-of}
+use Rattle.register.specs.Calls.{Lent, open-call, say-call, after-say, request-call, check-call}
+use Rattle.register.proofs.Bounds.{Number, open-bound, say-bound, request-bound, check-bound}
+use Rattle.calls.specs.Answers.{number-of, place-of}
+use Rattle.calls.proofs.Checks.{words-within, handed-type, handed-nothing}
+use Rattle.say.specs.Said.{said-of, Says-so}
+use Rattle.say.specs.declared.Said.{Said}
+use Rattle.say.specs.declared.Said.the-variants.{Added, Held, Fault as Not-said}
+use Rattle.host.specs.Answers.{number-unit, place-limit, code-of, added-of, Said-to, Typed-to}
+
+-- a number and a place that make up an answer
+abbrev pub Fits : ℕ → ℕ → Type 0
+Fits m p = (m ≤ past-last-record) × (p < place-limit)
+
+-- the code of what was handed back
+pub handed-code : {X : Type 0} (o : Result X) {m p : ℕ} → m ≡ number-of o → p ≡ place-of o → m * number-unit + p ≡ code-of o
+handed-code (ok x) e f = omega arith
+handed-code (refused m p) e f = rw (e, f) refl
+
+-- its refusals have document 01's numbers, and places up to the bound
+abbrev pub Bounded : {X : Type 0} → ℕ → Result X → Type 0
+Bounded bound o = (m p : ℕ) → o ≡ refused m p → Number m × (p ≤ bound)
+
+pub handed-fits : {X : Type 0} (o : Result X) (bound : ℕ) {m p : ℕ} → Bounded bound o → bound < place-limit → m ≡ number-of o → p ≡ place-of o → Fits m p
+handed-fits (ok x) bound f h e g = omega arith
+handed-fits (refused m p) bound f h e g = let (n, l) = f m p refl in omega arith
+
+pub refused-code : {X : Type 0} (o : Result X) (m p code : ℕ) → o ≡ refused m p → code ≡ m * number-unit + p → code ≡ code-of o
+refused-code o m p code e c = c ∙ sym (ap code-of e)
+
+-- ---- open and request
+
+module _ {X : Type 0} (o : Result X) (r : Verdict) (v : r ≡ verdict-of o) where
+  pub passed-code : r ≡ Passed → 0 ≡ code-of o
+  passed-code q = go o v
+    where
+      go : (x : Result X) → r ≡ verdict-of x → 0 ≡ code-of x
+      go (ok y) e = refl
+      go (refused m p) e = absurd (clash (cc))
+
+  pub fault-is : (m p : ℕ) → r ≡ Fault m p → o ≡ refused m p
+  fault-is m p q = go o v
+    where
+      go : (x : Result X) → r ≡ verdict-of x → x ≡ refused m p
+      go (ok y) e = absurd (clash (cc))
+      go (refused m′ p′) e = cc
+
+pub open-fits : (l : Lent) (reg rules : List ℕ) (m p : ℕ) → length (l .sig) + length rules < place-limit → open-call l reg rules ≡ refused m p → Fits m p
+open-fits l reg rules m p h e = let (n, q) = open-bound l reg rules e in omega arith
+
+pub request-fits : (l : Lent) (reg : List ℕ) (i v u : ℕ) (proof : List ℕ) (m p : ℕ) → length (l .sig) + length proof < place-limit → request-call l reg i v u proof ≡ refused m p → Fits m p
+request-fits l reg i v u proof m p h e = let (n, q) = request-bound l reg i v u proof e in omega arith
+
+-- ---- say
+
+module _ (o : Result Bool) (old : List ℕ) (a : ℕ) (q new : List ℕ) (r : Said) (S : Says-so o old a q new r) where
+  pub said-added : r ≡ Added → Said-to o old a q new 1 0
+  said-added f = go o (S .answer) (S .register)
+    where
+      go : (x : Result Bool) → r ≡ said-of x → new ≡ after-say x old a q → Said-to x old a q new 1 0
+      go (ok true) e g = record { answer = refl; register = g; added-is = refl }
+      go (ok false) e g = absurd (clash (cc))
+      go (refused m p) e g = absurd (clash (cc))
+
+  pub said-held : r ≡ Held → Said-to o old a q new 0 0
+  said-held f = go o (S .answer) (S .register)
+    where
+      go : (x : Result Bool) → r ≡ said-of x → new ≡ after-say x old a q → Said-to x old a q new 0 0
+      go (ok true) e g = absurd (clash (cc))
+      go (ok false) e g = record { answer = refl; register = g; added-is = refl }
+      go (refused m p) e g = absurd (clash (cc))
+
+  pub unsaid-is : (m p : ℕ) → r ≡ Not-said m p → o ≡ refused m p
+  unsaid-is m p f = go o (S .answer)
+    where
+      go : (x : Result Bool) → r ≡ said-of x → x ≡ refused m p
+      go (ok true) e = absurd (clash (cc))
+      go (ok false) e = absurd (clash (cc))
+      go (refused m′ p′) e = cc
+
+  pub said-nothing : (m p : ℕ) → r ≡ Not-said m p → (code : ℕ) → code ≡ m * number-unit + p → Said-to o old a q new 0 code
+  said-nothing m p f code c = let e = unsaid-is m p f in record { answer = refused-code o m p code e c; register = S .register; added-is = sym (ap added-of e) }
+
+pub say-fits : (l : Lent) (reg : List ℕ) (a : ℕ) (q : List ℕ) (m p : ℕ) → length (l .sig) + length q < place-limit → say-call l reg a q ≡ refused m p → Fits m p
+say-fits l reg a q m p h e = let (n, b) = say-bound l reg a q e in omega arith
+
+-- ---- check
+
+pub check-fits : (l : Lent) (reg term : List ℕ) {m p : ℕ} → length (l .sig) + length term < place-limit → m ≡ number-of (check-call l reg term) → p ≡ place-of (check-call l reg term) → Fits m p
+check-fits l reg term h e f = handed-fits (check-call l reg term) (length (l .sig) + length term) (λ m p. check-bound l reg term) h e f
+
+-- a check that leaves the type in the workspace
+module _ (o : Result Term) (end : ℕ) (new : List ℕ) (r : Derivation) (J : Judged o end new r) where
+  pub typed-to : (words e : ℕ) → r ≡ Typed words e → Typed-to o new words 0
+  typed-to words e q =
+      let H = handed-type o end new r J words e q in
+      record { answer = handed-code o (H .number-is) (H .place-is); words-are = sym (length-take-le words new (words-within o end new r J words e q)) ∙ ap length (H .part-is); type = H .part-is }
+
+  pub refused-to : (m p : ℕ) → r ≡ Refused m p → (code : ℕ) → code ≡ m * number-unit + p → Typed-to o new 0 code
+  refused-to m p q code c =
+      let H = handed-nothing o end new r J m p q in
+      record { answer = c ∙ handed-code o (H .number-is) (H .place-is); words-are = ap length (H .part-is); type = H .part-is }

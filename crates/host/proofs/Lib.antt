@@ -1,0 +1,3 @@
+-- Laws of the answers that a host program gets.
+pub mod Codes
+pub mod Starts

@@ -1,0 +1,55 @@
+use lib.ListN.{length}
+use Rattle.logic.specs.Result.{Result}
+use Rattle.logic.specs.Term.{Term}
+use Rattle.register.specs.Calls.{Lent, check-call}
+use Rattle.calls.specs.Shared.{lent-of}
+use Rattle.calls.proofs.Checks.{handed-nothing}
+use Rattle.host.proofs.Codes.{check-fits, typed-to, refused-to}
+use native.Mathlib.Omega.{arith}
+use borrow.Author.Needs.{needs}
+use Rattle.host.proofs.aura0_check_type.Statement.{statement}
+use Rattle.host.proofs.aura0_check_type.Tie as tie
+
+abbrev lent-here : tie.Start → Lent
+lent-here s = lent-of (s .args .signature .now) (s .args .n) (length (s .args .workspace .now))
+
+-- the call
+abbrev called : tie.Start → Result Term
+called s = check-call (lent-here s) (s .args .register .now) (s .args .term .now)
+
+judge-requires : tie.Need-judge-requires
+judge-requires c κs = search needs
+
+enum-known-judged : tie.Need-enum-known-judged
+enum-known-judged c = search needs
+
+enum-known-judged-2 : tie.Need-enum-known-judged-2
+enum-known-judged-2 c = search needs
+
+code-requires : tie.Need-code-requires
+code-requires c κs = let s = c .before .before .before .before .before .before .before .before .before .before .before in let j = c .before .before .before .before .before .judge in let H = handed-nothing (called s) _ (j .last .1 .1 .1 .1 .0) (j .result) (j .ensures) _ _ (c .before .judged2 .given .1) in check-fits (lent-here s) (s .args .register .now) (s .args .term .now) (omega (arith, s .good)) (H .number-is) (H .place-is)
+
+same-length : tie.Need-same-length
+same-length c = search needs
+
+returns : tie.Need-returns
+returns c = let s = c .before .before .before .before .before .before .before .before .before .before .before in let j = c .before .before .before .before .before .judge in typed-to (called s) _ (j .last .1 .1 .1 .1 .0) (j .result) (j .ensures) _ _ (c .before .judged .given .1)
+
+same-length-2 : tie.Need-same-length-2
+same-length-2 c = search needs
+
+returns-2 : tie.Need-returns-2
+returns-2 c = let s = c .before .before .before .before .before .before .before .before .before .before .before .before in let j = c .before .before .before .before .before .before .judge in refused-to (called s) _ (j .last .1 .1 .1 .1 .0) (j .result) (j .ensures) _ _ (c .before .before .judged2 .given .1) (c .code .result) (c .code .ensures)
+
+pub aura0-check-type-spec : {M : Type 1} → statement M
+aura0-check-type-spec =
+    tie.close
+    (tie.spec
+    judge-requires
+    enum-known-judged
+    enum-known-judged-2
+    code-requires
+    same-length
+    returns
+    same-length-2
+    returns-2)

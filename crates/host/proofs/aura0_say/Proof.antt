@@ -1,0 +1,78 @@
+use mathlib.Core.Bool.{Bool}
+use lib.ListN.{length}
+use Rattle.logic.specs.Result.{Result}
+use Rattle.register.specs.Calls.{Lent, say-call}
+use Rattle.calls.specs.Shared.{lent-of}
+use Rattle.host.proofs.Codes.{said-added, said-held, unsaid-is, said-nothing, say-fits}
+use native.Mathlib.Omega.{arith}
+use borrow.Author.Needs.{needs}
+use Rattle.host.proofs.aura0_say.Statement.{statement}
+use Rattle.host.proofs.aura0_say.Tie as tie
+
+abbrev lent-here : tie.Start → Lent
+lent-here s = lent-of (s .args .signature .now) (s .args .n) (length (s .args .workspace .now))
+
+-- the call
+abbrev called : tie.Start → Result Bool
+called s = say-call (lent-here s) (s .args .register .now) (s .args .principal) (s .args .proposition .now)
+
+say-requires : tie.Need-say-requires
+say-requires c κs = search needs
+
+enum-told : tie.Need-enum-told
+enum-told c = search needs
+
+enum-told-2 : tie.Need-enum-told-2
+enum-told-2 c = search needs
+
+enum-known-said : tie.Need-enum-known-said
+enum-known-said c = search needs
+
+code-requires : tie.Need-code-requires
+code-requires c κs = let s = c .before .before .before .before .before .before .before .before .before .before .before .before .before .before in let a = s .args in let v = c .before .before .before .before .before .before .before .say in say-fits (lent-here s) (a .register .now) (a .principal) (a .proposition .now) _ _ (omega (arith, s .good)) (unsaid-is (called s) (a .register .now) (a .principal) (a .proposition .now) (v .last .1 .1 .0) (v .result) (v .ensures) _ _ (c .before .said .given .1))
+
+same-length : tie.Need-same-length
+same-length c = search needs
+
+same-length-2 : tie.Need-same-length-2
+same-length-2 c = search needs
+
+returns : tie.Need-returns
+returns c = let s = c .before .before .before .before .before .before .before .before .before .before .before .before .before in let a = s .args in let v = c .before .before .before .before .before .before .say in said-added (called s) (a .register .now) (a .principal) (a .proposition .now) (v .last .1 .1 .0) (v .result) (v .ensures) (c .enum-told .given .1)
+
+same-length-3 : tie.Need-same-length-3
+same-length-3 c = search needs
+
+same-length-4 : tie.Need-same-length-4
+same-length-4 c = search needs
+
+returns-2 : tie.Need-returns-2
+returns-2 c = let s = c .before .before .before .before .before .before .before .before .before .before .before .before .before in let a = s .args in let v = c .before .before .before .before .before .before .say in said-held (called s) (a .register .now) (a .principal) (a .proposition .now) (v .last .1 .1 .0) (v .result) (v .ensures) (c .enum-told2 .given .1)
+
+same-length-5 : tie.Need-same-length-5
+same-length-5 c = search needs
+
+same-length-6 : tie.Need-same-length-6
+same-length-6 c = search needs
+
+returns-3 : tie.Need-returns-3
+returns-3 c = let s = c .before .before .before .before .before .before .before .before .before .before .before .before .before .before .before in let a = s .args in let v = c .before .before .before .before .before .before .before .before .say in said-nothing (called s) (a .register .now) (a .principal) (a .proposition .now) (v .last .1 .1 .0) (v .result) (v .ensures) _ _ (c .before .before .said .given .1) (c .code .result) (c .code .ensures)
+
+pub aura0-say-spec : {M : Type 1} → statement M
+aura0-say-spec =
+    tie.close
+    (tie.spec
+    say-requires
+    enum-told
+    enum-told-2
+    enum-known-said
+    code-requires
+    same-length
+    same-length-2
+    returns
+    same-length-3
+    same-length-4
+    returns-2
+    same-length-5
+    same-length-6
+    returns-3)

@@ -1,0 +1,74 @@
+-- What a host program in C gets: the answer as one 64-bit number, and what stands in the buffers that it lent.
+use Prim.Native.Nat.{ℕ, _+_, _*_}
+use mathlib.Core.Path.{_≡_}
+use mathlib.Core.Bool.{Bool, true, false}
+use mathlib.Core.List.{List}
+use lib.ListN.{length, take, drop}
+use Rattle.logic.specs.Result.{Result, ok, refused, _>>=_, _>>_}
+use Rattle.logic.specs.Term.{Term}
+use Rattle.register.specs.Records.{Record, header, words-of, register-records}
+use Rattle.register.specs.Calls.{read-call, after-open, after-say, after-request}
+use Rattle.records.specs.Answers.{body-of, kind-of}
+use Rattle.calls.specs.Answers.{type-of}
+
+-- "the refusal number times 4294967296 plus the place"
+abbrev pub number-unit : ℕ
+number-unit = 4294967296
+
+-- places are below this: a signature and a term that are lent have fewer words
+abbrev pub place-limit : ℕ
+place-limit = 4611686018427387904
+
+abbrev pub code-of : {X : Type 0} → Result X → ℕ
+code-of (ok x) = 0
+code-of (refused m p) = m * number-unit + p
+
+-- an open
+pub record Opened-to (o : Result (List Record)) (old new : List ℕ) (code : ℕ) : Type 0 where
+  pub answer : code ≡ code-of o
+  pub register : new ≡ after-open o old
+
+-- a say: 1 where it added a record, else 0
+abbrev pub added-of : Result Bool → ℕ
+added-of (ok true) = 1
+added-of (ok false) = 0
+added-of (refused m p) = 0
+
+pub record Said-to (o : Result Bool) (old : List ℕ) (a : ℕ) (q new : List ℕ) (added code : ℕ) : Type 0 where
+  pub answer : code ≡ code-of o
+  pub register : new ≡ after-say o old a q
+  pub added-is : added ≡ added-of o
+
+-- a request
+pub record Requested-to (o : Result (Unit {0})) (old : List ℕ) (i v u : ℕ) (p new : List ℕ) (code : ℕ) : Type 0 where
+  pub answer : code ≡ code-of o
+  pub register : new ≡ after-request o old i v u p
+
+-- a check that tells where the type stands: the first words of the workspace, none where refused
+pub record Typed-to (o : Result Term) (workspace : List ℕ) (words code : ℕ) : Type 0 where
+  pub answer : code ≡ code-of o
+  pub words-are : words ≡ length (type-of o)
+  pub type : take words workspace ≡ type-of o
+
+-- "A record is kind, body length, body": the words before the body
+abbrev pub record-head : ℕ
+record-head = 2
+
+-- where the body of record k starts in the register
+abbrev pub body-start : List ℕ → ℕ → Result ℕ
+body-start reg k = do
+  read-call reg k
+  rs ← register-records reg
+  ok (header + length (words-of (take k rs)) + record-head)
+
+abbrev pub start-of : Result ℕ → ℕ
+start-of (ok n) = n
+start-of (refused m p) = 0
+
+-- a read that tells where the body stands in the register; kind, start and words are 0 where refused
+pub record Read-to (reg : List ℕ) (k kind start words code : ℕ) : Type 0 where
+  pub answer : code ≡ code-of (read-call reg k)
+  pub kind-is : kind ≡ kind-of (read-call reg k)
+  pub start-is : start ≡ start-of (body-start reg k)
+  pub words-are : words ≡ length (body-of (read-call reg k))
+  pub body : take words (drop start reg) ≡ body-of (read-call reg k)

@@ -1,0 +1,2 @@
+-- What a host program in C gets.
+pub mod Answers

@@ -1,0 +1,180 @@
+// "A host program in C calls check and request": extern "C" entry points on numbers and lent slices, thin over the proved check and request, and over
+// open, say and read alike. include/aura0.h declares them. An answer is the refusal's number times 4294967296 plus the place, 0 for success.
+use calls::check::check;
+use calls::check::judge;
+use open::open;
+use records::format::HEAD;
+use records::read::place;
+use records::read::read;
+use request::request;
+use rules::derivation::Derivation;
+use rules::derivation::Verdict;
+use say::Said;
+use say::say;
+ghost use mathlib.Core.Path.{_≡_};
+ghost use Prim.Native.Nat.{_+_, _*_, _≤_, _<_};
+ghost use lib.ListN.{length};
+ghost use Rattle.logic.specs.Refusals.{past-last-record};
+ghost use Rattle.register.specs.Calls.{open-call, say-call, request-call, check-call};
+ghost use Rattle.calls.specs.Shared.{lent-of};
+ghost use Rattle.host.specs.Answers.{number-unit, place-limit, code-of, Opened-to, Said-to, Requested-to, Typed-to, Read-to};
+
+// What a refusal's number is multiplied by.
+const NUMBER_UNIT: u64 = 4294967296;
+
+fn code(number: u32, place: usize) -> u64
+    requires { ⌜ (number ≤ past-last-record) × (place < place-limit) ⌝ }
+    ensures { λ r. ⌜ r ≡ number * number-unit + place ⌝ }
+{
+    (number as u64) * NUMBER_UNIT + (place as u64)
+}
+
+// Open: the register written anew with the rules.
+#[no_mangle]
+pub extern "C" fn aura0_open(
+    signature: &[u32],
+    n: u32,
+    register: &mut [u32],
+    rules: &[u32],
+    workspace: &mut [u32],
+) -> u64
+    ensures { λ r. ⌜ Opened-to (open-call (lent-of (now (signature .entry)) n (length (now (workspace .entry)))) (now (register .entry)) (now (rules .entry))) (now (register .entry)) (now (register .exit)) r ⌝ }
+{
+    let verdict = open(signature, n, register, rules, workspace);
+    match verdict {
+        Verdict::Passed => 0,
+        Verdict::Fault { number, place } => code(number, place),
+    }
+}
+
+// Say: `added` is 1 where a record was added, else 0.
+#[no_mangle]
+pub extern "C" fn aura0_say(
+    signature: &[u32],
+    n: u32,
+    register: &mut [u32],
+    principal: u32,
+    proposition: &[u32],
+    workspace: &mut [u32],
+    added: &mut u32,
+) -> u64
+    ensures { λ r. ⌜ Said-to (say-call (lent-of (now (signature .entry)) n (length (now (workspace .entry)))) (now (register .entry)) principal (now (proposition .entry))) (now (register .entry)) principal (now (proposition .entry)) (now (register .exit)) (now (added .exit)) r ⌝ }
+{
+    let said = say(signature, n, register, principal, proposition, workspace);
+    match said {
+        Said::Added => {
+            *added = 1;
+            0
+        }
+        Said::Held => {
+            *added = 0;
+            0
+        }
+        Said::Fault { number, place } => {
+            *added = 0;
+            code(number, place)
+        }
+    }
+}
+
+// Request: a grant and its receipt added.
+#[no_mangle]
+pub extern "C" fn aura0_request(
+    signature: &[u32],
+    n: u32,
+    register: &mut [u32],
+    operation: u32,
+    extract: u32,
+    delivery: u32,
+    proof: &[u32],
+    workspace: &mut [u32],
+) -> u64
+    ensures { λ r. ⌜ Requested-to (request-call (lent-of (now (signature .entry)) n (length (now (workspace .entry)))) (now (register .entry)) operation extract delivery (now (proof .entry))) (now (register .entry)) operation extract delivery (now (proof .entry)) (now (register .exit)) r ⌝ }
+{
+    let verdict = request(
+        signature,
+        n,
+        register,
+        operation,
+        extract,
+        delivery,
+        proof,
+        workspace,
+    );
+    match verdict {
+        Verdict::Passed => 0,
+        Verdict::Fault { number, place } => code(number, place),
+    }
+}
+
+// Check, without the type.
+#[no_mangle]
+pub extern "C" fn aura0_check(
+    signature: &[u32],
+    n: u32,
+    register: &[u32],
+    term: &[u32],
+    workspace: &mut [u32],
+) -> u64
+    ensures { λ r. ⌜ r ≡ code-of (check-call (lent-of (now (signature .entry)) n (length (now (workspace .entry)))) (now (register .entry)) (now (term .entry))) ⌝ }
+{
+    let mut number = 0;
+    let mut place = 0;
+    check(
+        signature,
+        n,
+        register,
+        term,
+        workspace,
+        &mut number,
+        &mut place,
+    );
+    code(number, place)
+}
+
+// Check: the type is the first `type_words` words of the workspace.
+#[no_mangle]
+pub extern "C" fn aura0_check_type(
+    signature: &[u32],
+    n: u32,
+    register: &[u32],
+    term: &[u32],
+    workspace: &mut [u32],
+    type_words: &mut usize,
+) -> u64
+    ensures { λ r. ⌜ Typed-to (check-call (lent-of (now (signature .entry)) n (length (now (workspace .entry)))) (now (register .entry)) (now (term .entry))) (now (workspace .exit)) (now («type_words» .exit)) r ⌝ }
+{
+    let judged = judge(signature, n, register, term, workspace);
+    match judged {
+        Derivation::Typed { words, end: _ } => {
+            *type_words = words;
+            0
+        }
+        Derivation::Refused { number, place } => {
+            *type_words = 0;
+            code(number, place)
+        }
+    }
+}
+
+// Read: the body is `words` words of the register from `start` on.
+#[no_mangle]
+pub extern "C" fn aura0_read(
+    register: &[u32],
+    record: usize,
+    kind: &mut u32,
+    start: &mut usize,
+    words: &mut usize,
+) -> u64
+    ensures { λ r. ⌜ Read-to (now (register .entry)) «record» (now (kind .exit)) (now (start .exit)) (now (words .exit)) r ⌝ }
+{
+    let mut number = 0;
+    let body = read(register, record, kind, &mut number);
+    *words = body.len();
+    *start = 0;
+    if number != 0 {
+        return code(number, 0);
+    }
+    *start = place(register, record) + HEAD;
+    0
+}

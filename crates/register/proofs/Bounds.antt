@@ -1,0 +1,297 @@
+-- Every refusal of a call has one of document 01's numbers, 1 to 17, and a place within what was lent.
+use Prim.Native.Nat.{ℕ, zero, suc, _+_, _-_, _≤_}
+use mathlib.Core.Path.{_≡_, refl, sym, ap, _∙_}
+use mathlib.Core.Bool.{Bool, true, false, _&&_, not}
+use mathlib.Core.List.{List, [], _∷_, _++_}
+use mathlib.Core.Option.{Option, some, none}
+use native.Mathlib.Omega.{arith}
+use lib.Dec.{leb, ltb, eqb}
+use lib.ListN.{length, take, drop, getElem?, length-drop, length-append}
+use borrow.Author.Tests.{leb-true}
+use Rattle.logic.specs.Limits.{most-type-words, most-words, most-nesting, most-statement-words, most-statement-nesting, least-workspace, least-register, most-register, most-constants, most-constant-words}
+use Rattle.logic.specs.Refusals.{bad-signature, malformed, past-last-record}
+use Rattle.logic.specs.Result.{Result, ok, refused, _>>=_, _>>_, require, known, nowhere, pick}
+use Rattle.logic.specs.Term.{propA, typeA, stringA, prinA, kindPA, kindTA, constA, textA, nameA, saysO, piO, lamO, appO, retO, bindO, Atom, Term, atom, var, sign, node, P, N, Name, Says, Pi, encode, size}
+use Rattle.logic.specs.Move.{raise, lower, fill, occurs}
+use Rattle.logic.specs.Reading.{read-whole, Stands, too-deep, first-unheld}
+use Rattle.logic.specs.Infer.{same, measured, domain, body, proposition, parts, infer-atom, infer}
+use Rattle.logic.specs.Check.{term-of, Checked, check-term, check-statement}
+use Rattle.logic.specs.SignatureList.{at-constant, constant, constants, signature, operations-test}
+use Rattle.logic.proofs.Basics.{clash}
+use Rattle.logic.proofs.Results.{ok-inj, bound, tested, searched, followed, both-true}
+use Rattle.logic.proofs.Words.{encode-size}
+use Rattle.logic.proofs.Reading.{read-right}
+use Rattle.logic.proofs.Malformed.{read-refused}
+use Rattle.logic.proofs.Searches.{too-deep-first, first-unheld-first}
+use Rattle.logic.proofs.Places.{stands-words}
+use Rattle.register.specs.Records.{Record, header, used, count, records, register-records, held, words-of, statement, say-kind}
+use Rattle.register.specs.Calls.{Lent, View, payload, Holding, length-test, shared, signs-held, fits, check-own, check-call, say-own, say-call, permission, entry, request-own, request-call, at-rule, with-rule, opening, open-own, open-call, read-call}
+
+-- one of document 01's refusal numbers
+abbrev pub Number : ℕ → Type 0
+Number m = (1 ≤ m) × (m ≤ past-last-record)
+
+-- where a result is a refusal, it has such a number and a place up to the bound
+pub data Within {X : Type 0} (bound : ℕ) : Result X → Type 0 where
+  passed : {x : X} → Within bound (ok x)
+  inside : {m p : ℕ} → Number m → p ≤ bound → Within bound (refused m p)
+
+pub refusal : {X : Type 0} {bound m p : ℕ} {r : Result X} → Within bound r → r ≡ refused m p → Number m × (p ≤ bound)
+refusal passed e = absurd (clash (cc))
+refusal {m} {p} (inside {m = m′} {p = p′} h k) e = let n : m′ ≡ m = cc in let l : p′ ≡ p = cc in (omega arith, omega arith)
+
+-- ---- results put together
+
+bind-within : {X Y : Type 0} {bound : ℕ} (r : Result X) (k : X → Result Y) → Within bound r → ((x : X) → r ≡ ok x → Within bound (k x)) → Within bound (r >>= k)
+bind-within (ok x) k h f = f x refl
+bind-within (refused m p) k (inside a b) f = inside a b
+
+then-within : {X Y : Type 0} {bound : ℕ} (r : Result X) (s : Result Y) → Within bound r → Within bound s → Within bound (r >> s)
+then-within (ok x) s h f = f
+then-within (refused m p) s (inside a b) f = inside a b
+
+require-within : {bound : ℕ} (b : Bool) (m p : ℕ) → Number m → p ≤ bound → Within bound (require b m p)
+require-within true m p h k = passed
+require-within false m p h k = inside h k
+
+-- a test, and what comes behind it where it passes
+tested-within : {Y : Type 0} {bound : ℕ} (b : Bool) (m p : ℕ) (s : Result Y) → Number m → p ≤ bound → (b ≡ true → Within bound s) → Within bound (require b m p >> s)
+tested-within true m p s h k f = f refl
+tested-within false m p s h k f = inside h k
+
+known-within : {X : Type 0} {bound : ℕ} (m p : ℕ) (o : Option X) → Number m → p ≤ bound → Within bound (known m p o)
+known-within m p none h k = inside h k
+known-within m p (some x) h k = passed
+
+nowhere-within : {bound : ℕ} (m : ℕ) (o : Option ℕ) → Number m → ((p : ℕ) → o ≡ some p → p ≤ bound) → Within bound (nowhere m o)
+nowhere-within m none h f = passed
+nowhere-within m (some p) h f = inside h (f p refl)
+
+pick-within : {X : Type 0} {bound : ℕ} (b : Bool) (r s : Result X) → Within bound r → Within bound s → Within bound (pick b r s)
+pick-within true r s h k = h
+pick-within false r s h k = k
+
+at-rule-within : {X : Type 0} {bound own : ℕ} (at : ℕ) (r : Result X) → at ≤ bound → Within own r → Within bound (at-rule at r)
+at-rule-within at (ok x) h k = passed
+at-rule-within at (refused m p) h (inside a b) = inside a h
+
+at-constant-within : {X : Type 0} {bound : ℕ} (at : ℕ) (r : Result X) → at ≤ bound → Within bound (at-constant at r)
+at-constant-within at (ok x) h = passed
+at-constant-within at (refused m p) h = inside {m = bad-signature} (omega arith) h
+
+wider : {X : Type 0} {b c : ℕ} {r : Result X} → b ≤ c → Within b r → Within c r
+wider l passed = passed
+wider l (inside {p} a b) = inside {p = p} a (omega arith)
+
+-- ---- tests 6 to 12
+
+measured-within : {bound : ℕ} (at : ℕ) (A : Term) → at ≤ bound → Within bound (measured at A)
+measured-within at A h = then-within (require (leb (size A) most-type-words) _ at) (ok A) (require-within (leb (size A) most-type-words) _ at (omega arith) h) passed
+
+atom-within : {bound : ℕ} (Σ : List Term) (at : ℕ) (a : Atom) → at ≤ bound → Within bound (infer-atom Σ at a)
+atom-within Σ at propA h = passed
+atom-within Σ at typeA h = passed
+atom-within Σ at stringA h = passed
+atom-within Σ at prinA h = passed
+atom-within Σ at kindPA h = inside {m = malformed} (omega arith) h
+atom-within Σ at kindTA h = inside {m = malformed} (omega arith) h
+atom-within Σ at (constA n) h = known-within _ at (getElem? Σ n) (omega arith) h
+atom-within Σ at (textA n) h = passed
+atom-within Σ at (nameA n) h = passed
+
+module _ (Σ : List Term) {bound : ℕ} where
+  -- 9 to 12 are at words of the term
+  infer-within : (t : Term) (Γ : List Term) (at : ℕ) → at + size t ≤ bound → Within bound (infer Σ Γ at t)
+  unfolding infer size
+  infer-within (atom a) Γ at h = bind-within (infer-atom Σ at a) _ (atom-within Σ at a (omega arith)) λ A _. measured-within at A (omega arith)
+  infer-within (var n) Γ at h = bind-within (known _ at (getElem? Γ n)) _ (known-within _ at (getElem? Γ n) (omega arith) (omega arith)) λ A _. measured-within at (raise (suc n) A) (omega arith)
+  infer-within (sign n q) Γ at h =
+      bind-within (infer Σ [] (at + 1) q) _ (infer-within q [] (at + 1) (omega arith)) λ s _. tested-within (same s P) _ at _ (omega arith) (omega arith) λ _.
+      measured-within at (Says (Name n) q) (omega arith)
+  infer-within (node saysO a q) Γ at h =
+      bind-within (infer Σ Γ (at + 1) a) _ (infer-within a Γ (at + 1) (omega arith)) λ s _. tested-within (same s N) _ at _ (omega arith) (omega arith) λ _.
+      bind-within (infer Σ Γ (at + 1 + size a) q) _ (infer-within q Γ (at + 1 + size a) (omega arith)) λ r _. tested-within (same r P) _ at _ (omega arith) (omega arith) λ _.
+      measured-within at P (omega arith)
+  infer-within (node piO d b) Γ at h =
+      bind-within (infer Σ Γ (at + 1) d) _ (infer-within d Γ (at + 1) (omega arith)) λ s _. tested-within (domain d s) _ at _ (omega arith) (omega arith) λ _.
+      bind-within (infer Σ (d ∷ Γ) (at + 1 + size d) b) _ (infer-within b (d ∷ Γ) (at + 1 + size d) (omega arith)) λ r _. tested-within (body r) _ at _ (omega arith) (omega arith) λ _.
+      measured-within at r (omega arith)
+  infer-within (node lamO d b) Γ at h =
+      bind-within (infer Σ Γ (at + 1) d) _ (infer-within d Γ (at + 1) (omega arith)) λ s _. tested-within (domain d s) _ at _ (omega arith) (omega arith) λ _.
+      bind-within (infer Σ (d ∷ Γ) (at + 1 + size d) b) _ (infer-within b (d ∷ Γ) (at + 1 + size d) (omega arith)) λ B _. tested-within (proposition B) _ at _ (omega arith) (omega arith) λ _.
+      measured-within at (Pi d B) (omega arith)
+  infer-within (node appO f x) Γ at h =
+      bind-within (infer Σ Γ (at + 1) f) _ (infer-within f Γ (at + 1) (omega arith)) λ F _.
+      bind-within (known _ at (parts piO F)) _ (known-within _ at (parts piO F) (omega arith) (omega arith)) λ p _.
+      bind-within (infer Σ Γ (at + 1 + size f) x) _ (infer-within x Γ (at + 1 + size f) (omega arith)) λ E _. tested-within (same E (p .left)) _ at _ (omega arith) (omega arith) λ _.
+      measured-within at (fill (p .right) x) (omega arith)
+  infer-within (node retO a x) Γ at h =
+      bind-within (infer Σ Γ (at + 1) a) _ (infer-within a Γ (at + 1) (omega arith)) λ s _. tested-within (same s N) _ at _ (omega arith) (omega arith) λ _.
+      bind-within (infer Σ Γ (at + 1 + size a) x) _ (infer-within x Γ (at + 1 + size a) (omega arith)) λ Q _. tested-within (proposition Q) _ at _ (omega arith) (omega arith) λ _.
+      measured-within at (Says a Q) (omega arith)
+  infer-within (node bindO x b) Γ at h =
+      bind-within (infer Σ Γ (at + 1) x) _ (infer-within x Γ (at + 1) (omega arith)) λ E _.
+      bind-within (known _ at (parts saysO E)) _ (known-within _ at (parts saysO E) (omega arith) (omega arith)) λ p _.
+      bind-within (infer Σ (p .right ∷ Γ) (at + 1 + size x) b) _ (infer-within b (p .right ∷ Γ) (at + 1 + size x) (omega arith)) λ B _.
+      bind-within (known _ at (parts saysO B)) _ (known-within _ at (parts saysO B) (omega arith) (omega arith)) λ r _.
+      tested-within (same (r .left) (raise 1 (p .left))) _ at _ (omega arith) (omega arith) λ _. tested-within (eqb (occurs 0 (r .right)) 0) _ at _ (omega arith) (omega arith) λ _.
+      measured-within at (Says (p .left) (lower (r .right))) (omega arith)
+
+-- a term's words
+words-size : (ws : List ℕ) {t : Term} → read-whole ws ≡ ok t → size t ≡ length ws
+words-size ws {t} e = sym (ap length (read-right ws t .0 e .1) ∙ encode-size t)
+
+-- 7 is at one of the words lent, or at their end
+read-within : (ws : List ℕ) → Within (length ws) (read-whole ws)
+read-within ws = go (read-whole ws) refl
+  where
+    go : (r : Result Term) → read-whole ws ≡ r → Within (length ws) r
+    go (ok t) e = passed
+    go (refused m p) e = let (n, M) = read-refused ws m p .0 e in inside {m = m} (omega (arith, n)) (M .within)
+
+-- where a term stands in another is within its words
+stands-within : {s t : Term} {i d : ℕ} → Stands s i d t → i ≤ size t
+stands-within {s} {t} {i} st =
+    let (before, behind, n, e) = stands-words st in
+    let k : size t ≡ length before + length (encode s ++ behind) = sym (encode-size t) ∙ ap length e ∙ length-append before (encode s ++ behind) in
+    omega (arith, n, k)
+
+term-within : (most deep : ℕ) (ws : List ℕ) → Within (length ws) (term-of most deep ws)
+term-within most deep ws =
+    tested-within (leb 1 (length ws) && leb (length ws) most) _ 0 _ (omega arith) (omega arith) λ _.
+    bind-within (read-whole ws) _ (read-within ws) λ t e.
+    then-within (nowhere _ (too-deep deep 0 t)) (ok t) (nowhere-within _ (too-deep deep 0 t) (omega arith) λ p f. let F = too-deep-first t deep 0 p .0 f in omega (arith, F .place, stands-within (F .deep), words-size ws e)) passed
+
+-- a term that was read has the words lent
+term-size : (most deep : ℕ) (ws : List ℕ) (t : Term) → term-of most deep ws ≡ ok t → size t ≡ length ws
+term-size most deep ws t e =
+    tested (leb 1 (length ws) && leb (length ws) most) _ _ _ e λ _ e₁. bound (read-whole ws) _ e₁ λ u r e₂. searched _ (too-deep deep 0 u) (ok u) e₂ λ _ e₃.
+    words-size ws (r ∙ e₃)
+
+check-within : (Σ : List Term) (ws : List ℕ) → Within (length ws) (check-term Σ ws)
+check-within Σ ws =
+    bind-within (term-of most-words most-nesting ws) _ (term-within most-words most-nesting ws) λ t e.
+    bind-within (infer Σ [] 0 t) _ (infer-within Σ t [] 0 (omega (arith, term-size most-words most-nesting ws t e))) λ A _. passed
+
+check-size : (Σ : List Term) (ws : List ℕ) (c : Checked) → check-term Σ ws ≡ ok c → size (c .term) ≡ length ws
+check-size Σ ws c e =
+    bound (term-of most-words most-nesting ws) _ e λ t e₁ e₂. bound (infer Σ [] 0 t) _ e₂ λ A _ e₃.
+    ap (λ (x : Checked). size (x .term)) (sym (ok-inj e₃)) ∙ term-size most-words most-nesting ws t e₁
+
+statement-within : (Σ : List Term) (a : ℕ) (ws : List ℕ) → Within (length ws) (check-statement Σ a ws)
+statement-within Σ a ws =
+    bind-within (term-of most-statement-words most-statement-nesting ws) _ (term-within most-statement-words most-statement-nesting ws) λ q e.
+    bind-within (infer Σ [] 0 q) _ (infer-within Σ q [] 0 (omega (arith, term-size most-statement-words most-statement-nesting ws q e))) λ s _.
+    tested-within (same s P) _ 0 _ (omega arith) (omega arith) λ _.
+    then-within (measured 0 (Says (Name a) q)) (ok q) (measured-within 0 (Says (Name a) q) (omega arith)) passed
+
+statement-size : (Σ : List Term) (a : ℕ) (ws : List ℕ) (q : Term) → check-statement Σ a ws ≡ ok q → size q ≡ length ws
+statement-size Σ a ws q e =
+    bound (term-of most-statement-words most-statement-nesting ws) _ e λ t e₁ e₂. bound (infer Σ [] 0 t) _ e₂ λ s _ e₃. tested (same s P) _ _ _ e₃ λ _ e₄.
+    followed (measured 0 (Says (Name a) t)) (ok t) e₄ λ _ _ e₅.
+    ap size (sym (ok-inj e₅)) ∙ term-size most-statement-words most-statement-nesting ws t e₁
+
+-- ---- test 14: at a Sign of the term
+signs-within : (h : Holding) (t : Term) → Within (size t) (signs-held h t)
+signs-within h t = nowhere-within _ (first-unheld (λ a q. h a (encode q)) 0 t) (omega arith) λ p e. let F = first-unheld-first (λ a q. h a (encode q)) t 0 p .0 e in omega (arith, F .place, stands-within (F .embedded))
+
+-- ---- test 4: at a constant's length word
+constants-within : {bound : ℕ} (k at : ℕ) (Σ : List Term) (ws : List ℕ) → at + length ws ≤ bound → Within bound (constants k at Σ ws)
+unfolding constants
+constants-within zero at Σ ws h = inside {m = bad-signature} {p = at} (omega arith) (omega arith)
+constants-within (suc k) at Σ [] h = passed
+constants-within (suc k) at Σ (n ∷ ws) h =
+    tested-within (ltb (length Σ) most-constants && leb 1 n && leb n most-constant-words && leb n (length ws)) _ at _ (omega arith) (omega arith) λ t.
+    bind-within (at-constant at (constant Σ (take n ws))) _ (at-constant-within at (constant Σ (take n ws)) (omega arith)) λ A _.
+    let l = leb-true n (length ws) (both-true (ltb (length Σ) most-constants && leb 1 n && leb n most-constant-words) (leb n (length ws)) t .1) in
+    constants-within k (at + 1 + n) (Σ ++ (A ∷ [])) (drop n ws) (omega (arith, length-drop n ws, l))
+
+signature-within : (sig : List ℕ) → Within (length sig) (signature sig)
+signature-within sig = constants-within (suc (length sig)) 0 [] sig (omega arith)
+
+-- ---- the calls
+
+-- tests 2 and 3 name no place
+length-within : (len : ℕ) → Within 0 (length-test len)
+length-within len = require-within (leb least-register len && leb len most-register) _ 0 (omega arith) (omega arith)
+
+records-within : (reg : List ℕ) → Within 0 (register-records reg)
+records-within reg =
+    tested-within (leb header (used reg) && leb (used reg) (length reg)) _ 0 _ (omega arith) (omega arith) λ _.
+    bind-within (known _ 0 (records (used reg) (take (used reg - header) (drop header reg)))) _ (known-within _ 0 (records (used reg) (take (used reg - header) (drop header reg))) (omega arith) (omega arith)) λ rs _.
+    then-within (require (eqb (length rs) (count reg)) _ 0) (ok rs) (require-within (eqb (length rs) (count reg)) _ 0 (omega arith) (omega arith)) passed
+
+module _ {Y : Type 0} {words : ℕ} (l : Lent) (len used : ℕ) where
+  -- behind the shared tests, a call's own have places within its own words
+  shared-within : (records : Result (List Record)) (own : View → Result Y) → Within 0 records → ((v : View) → Within words (own v)) → Within (length (l .sig) + words) (shared l len used records own)
+  shared-within records own r f =
+      tested-within (leb least-workspace (l .workspace)) _ 0 _ (omega arith) (omega arith) λ _.
+      then-within (length-test len) _ (wider (omega arith) (length-within len)) (
+      bind-within records _ (wider (omega arith) r) λ rs _.
+      bind-within (signature (l .sig)) _ (wider (omega arith) (signature-within (l .sig))) λ Σ _.
+      tested-within (operations-test Σ (l .n)) _ 0 _ (omega arith) (omega arith) λ _.
+      wider (omega arith) (f _))
+
+fits-within : {bound : ℕ} (v : View) (rs : List Record) → Within bound (fits v rs)
+fits-within v rs = require-within (leb (v .used + length (words-of rs)) (v .size)) _ 0 (omega arith) (omega arith)
+
+check-own-within : (ws : List ℕ) (v : View) → Within (length ws) (check-own ws v)
+check-own-within ws v =
+    bind-within (check-term (v .Σ) ws) _ (check-within (v .Σ) ws) λ c e.
+    then-within (signs-held (v .holds) (c .term)) (ok (c .type)) (wider (omega (arith, check-size (v .Σ) ws c e)) (signs-within (v .holds) (c .term))) passed
+
+say-own-within : (a : ℕ) (ws : List ℕ) (v : View) → Within (length ws) (say-own a ws v)
+say-own-within a ws v =
+    tested-within (payload a) _ 0 _ (omega arith) (omega arith) λ _. tested-within (not (eqb a 0)) _ 0 _ (omega arith) (omega arith) λ _.
+    bind-within (check-statement (v .Σ) a ws) _ (statement-within (v .Σ) a ws) λ q e.
+    then-within (signs-held (v .holds) q) _ (wider (omega (arith, statement-size (v .Σ) a ws q e)) (signs-within (v .holds) q))
+    (pick-within (v .holds a ws) _ _ passed (then-within (fits v (statement say-kind a ws ∷ [])) (ok true) (fits-within v (statement say-kind a ws ∷ [])) passed))
+
+request-own-within : (i v u : ℕ) (ws : List ℕ) (s : View) → Within (length ws) (request-own i v u ws s)
+request-own-within i v u ws s =
+    tested-within (ltb i (s .n) && payload v && payload u) _ 0 _ (omega arith) (omega arith) λ _.
+    bind-within (check-term (s .Σ) ws) _ (check-within (s .Σ) ws) λ c e.
+    tested-within (same (c .type) (permission i v)) _ 0 _ (omega arith) (omega arith) λ _.
+    then-within (signs-held (s .holds) (c .term)) _ (wider (omega (arith, check-size (s .Σ) ws c e)) (signs-within (s .holds) (c .term))) (fits-within s (entry i v u ws))
+
+-- a refusal of a rule is at its principal word
+opening-within : {bound : ℕ} (k at : ℕ) (Σ : List Term) (rs : List Record) (ws : List ℕ) → at + length ws ≤ bound → Within bound (opening k at Σ rs ws)
+unfolding opening
+opening-within zero at Σ rs ws h = inside {m = malformed} {p = at} (omega arith) (omega arith)
+opening-within (suc k) at Σ rs [] h = passed
+opening-within (suc k) at Σ rs (a ∷ []) h = tested-within (payload a) _ at _ (omega arith) (omega arith) λ _. inside {m = malformed} {p = at} (omega arith) (omega arith)
+opening-within (suc k) at Σ rs (a ∷ n ∷ ws) h =
+    tested-within (payload a) _ at _ (omega arith) (omega arith) λ _. tested-within (leb 1 n && leb n most-statement-words) _ at _ (omega arith) (omega arith) λ _.
+    tested-within (leb n (length ws)) _ at _ (omega arith) (omega arith) λ t.
+    bind-within (at-rule at (check-statement Σ a (take n ws))) _ (at-rule-within at (check-statement Σ a (take n ws)) (omega arith) (statement-within Σ a (take n ws))) λ q _.
+    then-within (at-rule at (signs-held (held rs) q)) _ (at-rule-within at (signs-held (held rs) q) (omega arith) (signs-within (held rs) q))
+    (opening-within k (at + 2 + n) Σ (with-rule rs a (take n ws)) (drop n ws) (omega (arith, length-drop n ws, leb-true n (length ws) t)))
+
+open-own-within : (rules : List ℕ) (s : View) → Within (length rules) (open-own rules s)
+open-own-within rules s =
+    bind-within (opening (suc (length rules)) 0 (s .Σ) [] rules) _ (opening-within (suc (length rules)) 0 (s .Σ) [] rules (omega arith)) λ rs _.
+    then-within (fits s rs) (ok rs) (fits-within s rs) passed
+
+-- ---- the statements, of each call
+
+pub check-bound : (l : Lent) (reg ws : List ℕ) {m p : ℕ} → check-call l reg ws ≡ refused m p → Number m × (p ≤ length (l .sig) + length ws)
+check-bound l reg ws e = refusal (shared-within l (length reg) (used reg) (register-records reg) (check-own ws) (records-within reg) (check-own-within ws)) e
+
+pub say-bound : (l : Lent) (reg : List ℕ) (a : ℕ) (ws : List ℕ) {m p : ℕ} → say-call l reg a ws ≡ refused m p → Number m × (p ≤ length (l .sig) + length ws)
+say-bound l reg a ws e = refusal (shared-within l (length reg) (used reg) (register-records reg) (say-own a ws) (records-within reg) (say-own-within a ws)) e
+
+pub request-bound : (l : Lent) (reg : List ℕ) (i v u : ℕ) (ws : List ℕ) {m p : ℕ} → request-call l reg i v u ws ≡ refused m p → Number m × (p ≤ length (l .sig) + length ws)
+request-bound l reg i v u ws e = refusal (shared-within l (length reg) (used reg) (register-records reg) (request-own i v u ws) (records-within reg) (request-own-within i v u ws)) e
+
+pub open-bound : (l : Lent) (reg rules : List ℕ) {m p : ℕ} → open-call l reg rules ≡ refused m p → Number m × (p ≤ length (l .sig) + length rules)
+open-bound l reg rules e = refusal (shared-within l (length reg) header (ok []) (open-own rules) passed (open-own-within rules)) e
+
+-- read names no place
+read-within-none : (reg : List ℕ) (k : ℕ) → Within 0 (read-call reg k)
+read-within-none reg k =
+    then-within (length-test (length reg)) _ (length-within (length reg)) (
+    bind-within (register-records reg) _ (records-within reg) λ rs _.
+    known-within _ 0 (getElem? rs k) (omega arith) (omega arith))
+
+pub read-bound : (reg : List ℕ) (k : ℕ) {m p : ℕ} → read-call reg k ≡ refused m p → Number m × (p ≡ 0)
+read-bound reg k e = let (m, p) = refusal (read-within-none reg k) e in (m, omega arith)

@@ -1,0 +1,74 @@
+// The calls of the permission register for programs in C. The library is target/staticlib/libhost.a, which `rt staticlib host` builds.
+//
+// Each list of 32-bit words is lent as a pointer and a number of words; the pointer is not null, also where the number is 0.
+// Buffers that are written must not overlap any other buffer of the call.
+// An answer is 0 for success, else the refusal's number times 4294967296 plus its place (0 where none is named). A refusal leaves the
+// register as it was. The workspace needs at least 12,288 words, and what it holds after a call is free, except for a type handed back.
+#ifndef AURA0_H
+#define AURA0_H
+
+#include <stddef.h>
+#include <stdint.h>
+
+#ifdef __cplusplus
+extern "C" {
+#endif
+
+// Document 01's refusal numbers, in the order of its table: "Tests run in this order".
+enum {
+    AURA0_WORKSPACE_SHORT = 1,      // workspace short
+    AURA0_REGISTER_LENGTH = 2,      // register length
+    AURA0_REGISTER_BROKEN = 3,      // register broken
+    AURA0_BAD_SIGNATURE = 4,        // signature; place: first bad constant's length word
+    AURA0_BAD_NUMBER = 5,           // n, operation, principal, extract or delivery out of range, or a permit or receipt type wrong or missing
+    AURA0_DESK_SAYS = 15,           // say by principal 0
+    AURA0_TERM_LENGTH = 6,          // term empty or too long
+    AURA0_MALFORMED = 7,            // malformed; place: first bad word, or the term's length
+    AURA0_NESTING = 8,              // nesting; place: first word at depth 33
+    AURA0_UNBOUND_VARIABLE = 9,     // unbound variable
+    AURA0_UNKNOWN_CONSTANT = 10,    // unknown constant
+    AURA0_CONDITION_FAILS = 11,     // a rule's condition fails
+    AURA0_TYPE_TOO_LONG = 12,       // type over 256 words
+    AURA0_ANOTHER_PROPOSITION = 13, // another proposition proved
+    AURA0_NOT_HELD = 14,            // signature not held; place: first such Sign
+    AURA0_REGISTER_FULL = 16,       // words used and the new entry's together pass the register's length
+    AURA0_PAST_LAST_RECORD = 17     // read past the last record
+};
+
+// The kinds of records.
+enum { AURA0_RULE = 1, AURA0_SAY = 2, AURA0_GRANT = 3, AURA0_RECEIPT = 4 };
+
+// The two parts of an answer, for lists of fewer than 4294967296 words together.
+static inline uint32_t aura0_number(uint64_t answer) { return (uint32_t)(answer >> 32); }
+static inline uint32_t aura0_place(uint64_t answer) { return (uint32_t)answer; }
+
+// Writes the register anew with the rules of a rule list, each a principal, a length and a proposition; a refusal of a rule is at its principal's index.
+uint64_t aura0_open(const uint32_t *signature, size_t signature_words, uint32_t n, uint32_t *register_, size_t register_words,
+                    const uint32_t *rules, size_t rules_words, uint32_t *workspace, size_t workspace_words);
+
+// Adds the principal's statement unless it is held; *added is 1 where it was added, else 0.
+uint64_t aura0_say(const uint32_t *signature, size_t signature_words, uint32_t n, uint32_t *register_, size_t register_words,
+                   uint32_t principal, const uint32_t *proposition, size_t proposition_words,
+                   uint32_t *workspace, size_t workspace_words, uint32_t *added);
+
+// Adds a grant and its receipt where the proof is one of Says a0 App C(2 * operation) s(extract).
+uint64_t aura0_request(const uint32_t *signature, size_t signature_words, uint32_t n, uint32_t *register_, size_t register_words,
+                       uint32_t operation, uint32_t extract, uint32_t delivery, const uint32_t *proof, size_t proof_words,
+                       uint32_t *workspace, size_t workspace_words);
+
+// Checks a term against the register, without the type.
+uint64_t aura0_check(const uint32_t *signature, size_t signature_words, uint32_t n, const uint32_t *register_, size_t register_words,
+                     const uint32_t *term, size_t term_words, uint32_t *workspace, size_t workspace_words);
+
+// The same; the type is the first *type_words words of the workspace, none where refused.
+uint64_t aura0_check_type(const uint32_t *signature, size_t signature_words, uint32_t n, const uint32_t *register_, size_t register_words,
+                          const uint32_t *term, size_t term_words, uint32_t *workspace, size_t workspace_words, size_t *type_words);
+
+// Reads a record: its kind, and its body as the *words words of the register from *start on; all three are 0 where refused.
+uint64_t aura0_read(const uint32_t *register_, size_t register_words, size_t record, uint32_t *kind, size_t *start, size_t *words);
+
+#ifdef __cplusplus
+}
+#endif
+
+#endif

@@ -1,0 +1,321 @@
+// Runs scripts of tests/vectors (PROTOCOL.md there) against the static library: vectors LISTING FILE..
+// Prints a line a file, and each wrong answer with its file and line; the exit status is 1 where an answer was wrong.
+// After each call it also compares what was lent with what it was before: the signature and the term, the register where it may not
+// change, the register's words past the used count, and the words behind each buffer.
+#define _POSIX_C_SOURCE 200809L
+#include <stdarg.h>
+#include <stdio.h>
+#include <stdlib.h>
+#include <string.h>
+#include <unistd.h>
+#include "../include/aura0.h"
+
+enum { LEVEL = 0, MOST = 1 << 21, GUARD = 16, PATTERN = 0x5a5a5a5a };
+
+// a lent list of words, with a guard behind it, and what it held before the call
+struct lent {
+    uint32_t words[MOST + GUARD], before[MOST + GUARD];
+    size_t length;
+};
+
+static struct lent signature, reg, term, workspace;
+static uint32_t n;
+static unsigned long level;
+static const char *listing;
+
+static const char *file;
+static size_t line_number, answers, wrong, skipped;
+// the answer lines of the last call, and those that no answer line was compared with yet
+static char *answer;
+static const char *expected_next;
+static size_t answer_room, answer_length;
+
+static void stop(const char *why)
+{
+    fprintf(stderr, "%s:%zu: %s\n", file, line_number, why);
+    exit(1);
+}
+
+static void wrong_answer(const char *expected, const char *got, size_t got_length)
+{
+    wrong++;
+    printf("%s:%zu: wrong: expected \"%s\", got \"%.*s\"\n", file, line_number, expected, (int)got_length, got);
+}
+
+static void put(const char *format, ...)
+{
+    va_list list;
+    if (answer_room - answer_length < 512) {
+        answer_room = 2 * answer_room + 1024;
+        answer = realloc(answer, answer_room);
+        if (answer == NULL)
+            stop("no memory");
+    }
+    va_start(list, format);
+    answer_length += vsnprintf(answer + answer_length, answer_room - answer_length, format, list);
+    va_end(list);
+}
+
+static void put_words(const uint32_t *words, size_t length)
+{
+    for (size_t i = 0; i < length; i++)
+        put(" %08x", words[i]);
+}
+
+static void fill(struct lent *to, size_t length, uint32_t word)
+{
+    if (length > MOST)
+        stop("too many words");
+    to->length = length;
+    for (size_t i = 0; i < length; i++)
+        to->words[i] = word;
+}
+
+// what stands in a line behind its first word, if that is the name
+static const char *after(const char *line, const char *name)
+{
+    size_t length = strlen(name);
+    return strncmp(line, name, length) == 0 && (line[length] == 0 || line[length] == ' ') ? line + length : NULL;
+}
+
+// what is left of a line: 8-digit hexadecimal words, each behind a blank
+static void read_words(struct lent *to, const char *rest)
+{
+    to->length = 0;
+    while (*rest != 0) {
+        char *end;
+        unsigned long word = strtoul(rest + 1, &end, 16);
+        if (*rest != ' ' || end != rest + 9 || to->length == MOST)
+            stop("not a list of words");
+        to->words[to->length++] = (uint32_t)word;
+        rest = end;
+    }
+}
+
+// a decimal number behind a blank
+static unsigned long read_number(const char **rest, unsigned long most)
+{
+    char *end;
+    unsigned long number = strtoul(*rest + 1, &end, 10);
+    if (**rest != ' ' || end == *rest + 1 || number > most)
+        stop("not a number");
+    *rest = end;
+    return number;
+}
+
+static void keep(struct lent *list)
+{
+    for (size_t i = 0; i < GUARD; i++)
+        list->words[list->length + i] = PATTERN;
+    memcpy(list->before, list->words, (list->length + GUARD) * sizeof(uint32_t));
+}
+
+static void same_from(const struct lent *list, size_t start, const char *what)
+{
+    if (memcmp(list->words + start, list->before + start, (list->length + GUARD - start) * sizeof(uint32_t)) != 0) {
+        wrong++;
+        printf("%s:%zu: wrong: the %s changed\n", file, line_number, what);
+    }
+}
+
+// before a call with a term and a workspace of its own
+static void lend(size_t words, const char *rest)
+{
+    read_words(&term, rest);
+    fill(&workspace, words, PATTERN);
+    keep(&signature);
+    keep(&reg);
+    keep(&term);
+    keep(&workspace);
+}
+
+// after it; `writes` where the call may change the register
+static void take_back(int writes)
+{
+    same_from(&signature, 0, "signature");
+    same_from(&term, 0, "term");
+    same_from(&workspace, workspace.length, "memory behind the workspace");
+    if (writes && reg.words[0] > reg.length)
+        stop("more words used than there are");
+    same_from(&reg, writes ? reg.words[0] : 0, "register");
+}
+
+#define LENT(list) (list).words, (list).length
+
+// makes the call of a line, and puts its answer; whether the line was one
+static int call(const char *line)
+{
+    const char *rest;
+    answer_length = 0;
+    if ((rest = after(line, "open")) != NULL) {
+        size_t words = read_number(&rest, MOST);
+        lend(words, rest);
+        uint64_t code = aura0_open(LENT(signature), n, LENT(reg), LENT(term), LENT(workspace));
+        take_back(code == 0);
+        put("open %u %u", aura0_number(code), aura0_place(code));
+    } else if ((rest = after(line, "say")) != NULL) {
+        size_t words = read_number(&rest, MOST);
+        uint32_t principal = read_number(&rest, UINT32_MAX), added = PATTERN;
+        lend(words, rest);
+        uint64_t code = aura0_say(LENT(signature), n, LENT(reg), principal, LENT(term), LENT(workspace), &added);
+        take_back(code == 0 && added == 1);
+        put("say %u %u %u", aura0_number(code), aura0_place(code), added);
+    } else if ((rest = after(line, "request")) != NULL) {
+        size_t words = read_number(&rest, MOST);
+        uint32_t operation = read_number(&rest, UINT32_MAX), extract = read_number(&rest, UINT32_MAX), delivery = read_number(&rest, UINT32_MAX);
+        lend(words, rest);
+        uint64_t code = aura0_request(LENT(signature), n, LENT(reg), operation, extract, delivery, LENT(term), LENT(workspace));
+        take_back(code == 0);
+        put("request %u %u", aura0_number(code), aura0_place(code));
+    } else if ((rest = after(line, "check")) != NULL) {
+        size_t words = read_number(&rest, MOST), type_words = PATTERN;
+        lend(words, rest);
+        uint64_t without = aura0_check(LENT(signature), n, LENT(reg), LENT(term), LENT(workspace));
+        take_back(0);
+        lend(words, rest);
+        uint64_t code = aura0_check_type(LENT(signature), n, LENT(reg), LENT(term), LENT(workspace), &type_words);
+        take_back(0);
+        if (code != without)
+            wrong_answer("the same answer with and without the type", "two answers", 11);
+        if (type_words > words)
+            stop("a type past the workspace");
+        put("check %u %u", aura0_number(code), aura0_place(code));
+        put_words(workspace.words, type_words);
+    } else if ((rest = after(line, "read")) != NULL) {
+        size_t record = read_number(&rest, SIZE_MAX), start = PATTERN, words = PATTERN;
+        uint32_t kind = PATTERN;
+        lend(0, rest);
+        uint64_t code = aura0_read(LENT(reg), record, &kind, &start, &words);
+        take_back(0);
+        if (start > reg.length || words > reg.length - start)
+            stop("a body past the register");
+        put("read %u %u %u", aura0_number(code), aura0_place(code), kind);
+        put_words(reg.words + start, words);
+    } else if (after(line, "dump") != NULL) {
+        uint32_t kind;
+        size_t start, words;
+        // every read of a broken register is refused by 2 or 3
+        uint32_t number = aura0_number(aura0_read(LENT(reg), 0, &kind, &start, &words));
+        size_t used = number == AURA0_REGISTER_LENGTH || number == AURA0_REGISTER_BROKEN ? reg.length : reg.words[0];
+        put("dump %zu:", used);
+        put_words(reg.words, used);
+    } else if (after(line, "list") != NULL) {
+        char name[] = "/tmp/aura0-register-XXXXXX", command[4096], text[256];
+        int descriptor = mkstemp(name);
+        FILE *out = descriptor < 0 ? NULL : fdopen(descriptor, "wb");
+        if (out == NULL)
+            stop("no file for the register");
+        for (size_t i = 0; i < reg.length; i++)
+            for (int shift = 0; shift < 32; shift += 8)
+                putc(reg.words[i] >> shift & 255, out);
+        fclose(out);
+        snprintf(command, sizeof(command), "'%s' < %s", listing, name);
+        FILE *in = popen(command, "r");
+        if (in == NULL)
+            stop("the listing program does not start");
+        while (fgets(text, sizeof(text), in) != NULL)
+            put("%slist %.*s", answer_length > 0 ? "\n" : "", (int)strcspn(text, "\n"), text);
+        if (pclose(in) != 0)
+            stop("the listing program failed");
+        unlink(name);
+    } else
+        return 0;
+    return 1;
+}
+
+// a line that sets the state; whether it was one
+static int set(const char *line)
+{
+    const char *rest;
+    if (after(line, "new") != NULL) {
+        signature.length = reg.length = 0;
+        n = 0;
+        level = 0;
+    } else if ((rest = after(line, "level")) != NULL) {
+        level = read_number(&rest, 99);
+    } else if ((rest = after(line, "n")) != NULL) {
+        n = read_number(&rest, UINT32_MAX);
+    } else if ((rest = after(line, "zeros")) != NULL) {
+        fill(&reg, read_number(&rest, MOST), 0);
+    } else if ((rest = after(line, "sig")) != NULL)
+        read_words(&signature, rest);
+    else if ((rest = after(line, "register")) != NULL)
+        read_words(&reg, rest);
+    else
+        return 0;
+    return 1;
+}
+
+// an answer line, against the next line of the last call's answer
+static void compare(const char *expected)
+{
+    answers++;
+    size_t length = expected_next == NULL ? 0 : strcspn(expected_next, "\n");
+    if (expected_next == NULL || strlen(expected) != length || strncmp(expected, expected_next, length) != 0)
+        wrong_answer(expected, expected_next == NULL ? "" : expected_next, length);
+    if (expected_next != NULL)
+        expected_next = expected_next[length] == '\n' ? expected_next + length + 1 : NULL;
+}
+
+// no line of the last call's answer may be left
+static void all_compared(void)
+{
+    if (expected_next != NULL)
+        wrong_answer("no more", expected_next, strlen(expected_next));
+    expected_next = NULL;
+}
+
+static void run(FILE *in)
+{
+    char *line = NULL;
+    size_t room = 0;
+    ssize_t length;
+    answers = wrong = skipped = line_number = 0;
+    set("new");
+    while ((length = getline(&line, &room, in)) >= 0) {
+        line_number++;
+        line[strcspn(line, "\r\n")] = 0;
+        if (line[0] == 0 || line[0] == '#')
+            continue;
+        if (line[0] == '>' && line[1] == ' ') {
+            if (level == LEVEL)
+                compare(line + 2);
+            else
+                skipped++;
+            continue;
+        }
+        all_compared();
+        if (set(line) || level != LEVEL)
+            continue;
+        if (!call(line))
+            stop("not a line of a script");
+        expected_next = answer;
+    }
+    all_compared();
+    free(line);
+}
+
+int main(int count, char **arguments)
+{
+    int status = 0;
+    if (count < 3) {
+        fprintf(stderr, "vectors LISTING FILE..\n");
+        return 2;
+    }
+    listing = arguments[1];
+    for (int i = 2; i < count; i++) {
+        file = arguments[i];
+        FILE *in = fopen(file, "r");
+        if (in == NULL)
+            stop("cannot be read");
+        run(in);
+        fclose(in);
+        printf("%s: %zu answers, %zu wrong", file, answers, wrong);
+        if (skipped > 0)
+            printf(", %zu skipped: they are of another level", skipped);
+        printf("\n");
+        if (wrong > 0)
+            status = 1;
+    }
+    return status;
+}
