@@ -1,0 +1,145 @@
+// A call of the register and its line: what the example is, the call, and what it gives.
+use crate::terms::OPERATIONS;
+use crate::terms::signature;
+use logic::limit::LEAST_WORKSPACE;
+use rules::derivation::Verdict;
+use say::Said;
+
+pub(crate) fn heading(text: &[u8]) {
+    io::write_all(1, text);
+    io::write_all(1, b"\n");
+}
+
+fn print_number(n: u32) {
+    io::write_all(1, b" ");
+    io::print_decimal(1, n as u64);
+}
+
+fn print_word(word: u32) {
+    io::write_all(1, b" ");
+    io::print_hex(1, word as u64, 8);
+}
+
+fn print_words(words: &[u32]) {
+    let mut i = 0;
+    while i < words.len() {
+        print_word(words[i]);
+        i += 1;
+    }
+}
+
+// The example, the call, its number and its place.
+fn print_answer(example: &[u8], call: &[u8], number: u32, place: usize) {
+    io::write_all(1, example);
+    io::write_all(1, b": ");
+    io::write_all(1, call);
+    print_number(number);
+    io::write_all(1, b" ");
+    io::print_decimal(1, place as u64);
+}
+
+fn print_verdict(example: &[u8], call: &[u8], verdict: Verdict) {
+    match verdict {
+        Verdict::Passed => print_answer(example, call, 0, 0),
+        Verdict::Fault { number, place } => print_answer(example, call, number, place),
+    }
+    io::write_all(1, b"\n");
+}
+
+pub(crate) fn open_line(example: &[u8], register: &mut [u32], rules: &[u32]) {
+    let sig = signature();
+    let mut ws = [0u32; LEAST_WORKSPACE];
+    let verdict = open::open(&sig, OPERATIONS, register, rules, &mut ws);
+    print_verdict(example, b"open", verdict);
+}
+
+pub(crate) fn say_line(example: &[u8], register: &mut [u32], principal: u32, proposition: &[u32]) {
+    let sig = signature();
+    let mut ws = [0u32; LEAST_WORKSPACE];
+    let said = say::say(&sig, OPERATIONS, register, principal, proposition, &mut ws);
+    match said {
+        Said::Added => {
+            print_answer(example, b"say", 0, 0);
+            io::write_all(1, b" added");
+        }
+        Said::Held => {
+            print_answer(example, b"say", 0, 0);
+            io::write_all(1, b" held");
+        }
+        Said::Fault { number, place } => print_answer(example, b"say", number, place),
+    }
+    io::write_all(1, b"\n");
+}
+
+pub(crate) fn request_line(
+    example: &[u8],
+    register: &mut [u32],
+    operation: u32,
+    extract: u32,
+    delivery: u32,
+    proof: &[u32],
+) {
+    let sig = signature();
+    let mut ws = [0u32; LEAST_WORKSPACE];
+    let verdict = request::request(
+        &sig,
+        OPERATIONS,
+        register,
+        operation,
+        extract,
+        delivery,
+        proof,
+        &mut ws,
+    );
+    print_verdict(example, b"request", verdict);
+}
+
+// A check with a signature, n and a workspace of its own.
+pub(crate) fn check_line_with(
+    example: &[u8],
+    sig: &[u32],
+    n: u32,
+    register: &[u32],
+    term: &[u32],
+    ws: &mut [u32],
+) {
+    let mut number = 0;
+    let mut place = 0;
+    let found = calls::check::check(sig, n, register, term, ws, &mut number, &mut place);
+    print_answer(example, b"check", number, place);
+    print_words(found);
+    io::write_all(1, b"\n");
+}
+
+pub(crate) fn check_line(example: &[u8], register: &[u32], term: &[u32]) {
+    let sig = signature();
+    let mut ws = [0u32; LEAST_WORKSPACE];
+    check_line_with(example, &sig, OPERATIONS, register, term, &mut ws);
+}
+
+// The kind and the body after the answer, and no more than the answer where the read is refused.
+pub(crate) fn read_line(example: &[u8], register: &[u32], record: usize) {
+    let mut kind = 0;
+    let mut number = 0;
+    let body = records::read::read(register, record, &mut kind, &mut number);
+    print_answer(example, b"read", number, 0);
+    if number == 0 {
+        io::write_all(1, b" kind");
+        print_number(kind);
+        io::write_all(1, b" body");
+    }
+    print_words(body);
+    io::write_all(1, b"\n");
+}
+
+// The counts of a register: its words used and its records.
+pub(crate) fn counts_line(register: &[u32]) {
+    if register.len() < 2 {
+        return;
+    }
+    io::write_all(1, b"used");
+    print_number(register[0]);
+    io::write_all(1, b" records");
+    print_number(register[1]);
+    io::write_all(1, b"\n");
+}

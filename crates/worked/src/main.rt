@@ -1,0 +1,163 @@
+// Makes document 01's examples through the calls of the register, and prints a line for each.
+mod lines;
+mod terms;
+
+use crate::lines::check_line;
+use crate::lines::check_line_with;
+use crate::lines::counts_line;
+use crate::lines::heading;
+use crate::lines::open_line;
+use crate::lines::read_line;
+use crate::lines::request_line;
+use crate::lines::say_line;
+use crate::terms::A0;
+use crate::terms::APP;
+use crate::terms::C0;
+use crate::terms::C2;
+use crate::terms::C9;
+use crate::terms::OPERATIONS;
+use crate::terms::P;
+use crate::terms::RET;
+use crate::terms::S;
+use crate::terms::S7;
+use crate::terms::SIGN3;
+use crate::terms::SIGN4;
+use crate::terms::V0;
+use crate::terms::deep;
+use crate::terms::proof;
+use crate::terms::rules;
+use crate::terms::signature;
+use crate::terms::statement;
+use crate::terms::statement_254;
+use crate::terms::statement_255;
+use logic::limit::LEAST_WORKSPACE;
+
+// "Rule r, a3 says App C2 s7": how each register here begins.
+fn begin(register: &mut [u32]) {
+    let list = rules();
+    open_line(b"rule r", register, &list);
+    let said = statement();
+    say_line(b"a3 says App C2 s7", register, 3, &said);
+    counts_line(register);
+}
+
+// The records, and the proof once more.
+fn read_back(register: &[u32]) {
+    read_line(b"record 0", register, 0);
+    read_line(b"record 1", register, 1);
+    read_line(b"record 2", register, 2);
+    read_line(b"record 3", register, 3);
+    read_line(b"record 4", register, 4);
+    let p = proof();
+    check_line(b"p", register, &p);
+}
+
+// "64 words suffice."
+fn grant(register: &mut [u32; 64]) {
+    heading(b"A register of 64 words");
+    begin(register);
+    let said = statement();
+    say_line(b"a3 says it again", register, 3, &said);
+    counts_line(register);
+    let p = proof();
+    request_line(b"request 0, 7, 9 with p", register, 0, 7, 9, &p);
+    counts_line(register);
+    read_back(register);
+}
+
+// "63 give 16."
+fn full(register: &mut [u32; 63]) {
+    heading(b"A register of 63 words");
+    begin(register);
+    let p = proof();
+    request_line(b"request 0, 7, 9 with p", register, 0, 7, 9, &p);
+    counts_line(register);
+}
+
+// "A say of 254 words may pass; of 255 is 12."
+fn long_says(register: &mut [u32; 300]) {
+    heading(b"A register of 300 words");
+    begin(register);
+    let even = statement_254();
+    say_line(b"a3 says 254 words", register, 3, &even);
+    counts_line(register);
+    let odd = statement_255();
+    say_line(b"a3 says 255 words", register, 3, &odd);
+    counts_line(register);
+}
+
+// The rows of the refusal table for what is lent beside the term.
+fn lent_refusals(register: &[u32]) {
+    let sig = signature();
+    let term = [P];
+    let mut short = [0u32; LEAST_WORKSPACE - 1];
+    check_line_with(
+        b"1, a workspace of 12287 words",
+        &sig,
+        OPERATIONS,
+        register,
+        &term,
+        &mut short,
+    );
+    let word = [2];
+    check_line(b"2, a register of 1 word", &word, &term);
+    let broken = [9, 0, 0, 0, 0, 0, 0, 0];
+    check_line(b"3, 8 words with word 0 = 9", &broken, &term);
+    let bad = [1, S];
+    let mut ws = [0u32; LEAST_WORKSPACE];
+    check_line_with(
+        b"4, a signature 1, then S",
+        &bad,
+        OPERATIONS,
+        register,
+        &term,
+        &mut ws,
+    );
+    check_line_with(b"5, n = 0", &sig, 0, register, &term, &mut ws);
+}
+
+// The rows for a term that has no type.
+fn term_refusals(register: &[u32]) {
+    let missing = [APP, C0];
+    check_line(b"6, no words", register, &missing[..0]);
+    check_line(b"7, App C0", register, &missing);
+    let nested = deep();
+    check_line(b"8, Pi S 32 times and P, 33 deep", register, &nested);
+    let unbound = [V0];
+    check_line(b"9, V0", register, &unbound);
+    let unknown = [C9];
+    check_line(b"10, C9", register, &unknown);
+    let string = [RET, A0, S7];
+    check_line(b"11, Ret a0 s7", register, &string);
+}
+
+// The rows of the refusal table, in its order. The registers of 63 words and of 4 records are those that the examples before left.
+fn refusals(register: &mut [u32; 64], short: &mut [u32; 63], granted: &[u32; 64]) {
+    heading(b"The refusal table, on a register of 64 words");
+    begin(register);
+    lent_refusals(register);
+    let said = statement();
+    say_line(b"15, a0 says App C2 s7", register, 0, &said);
+    term_refusals(register);
+    let long = statement_255();
+    say_line(b"12, a3 says 255 words", register, 3, &long);
+    let another = [SIGN3, APP, C2, S7];
+    request_line(b"13, Sign3 App C2 s7", register, 0, 7, 9, &another);
+    let never = [SIGN4, APP, C2, S7];
+    check_line(b"14, Sign4 App C2 s7, never said", register, &never);
+    let p = proof();
+    request_line(b"16, p on 63 words", short, 0, 7, 9, &p);
+    read_line(b"17, record 4 of 4", granted, 4);
+    counts_line(register);
+}
+
+fn main() {
+    let mut granted = [0u32; 64];
+    grant(&mut granted);
+    let mut short = [0u32; 63];
+    full(&mut short);
+    let mut long = [0u32; 300];
+    long_says(&mut long);
+    let mut register = [0u32; 64];
+    refusals(&mut register, &mut short, &granted);
+}

@@ -1,0 +1,150 @@
+// The words of document 01's sample, each under the name that the document gives it.
+use logic::word::PAYLOADS;
+use logic::word::TAG_APP;
+use logic::word::TAG_BIND;
+use logic::word::TAG_CONSTANT;
+use logic::word::TAG_NAME;
+use logic::word::TAG_PI;
+use logic::word::TAG_PRIN;
+use logic::word::TAG_PROP;
+use logic::word::TAG_RET;
+use logic::word::TAG_SAYS;
+use logic::word::TAG_SIGN;
+use logic::word::TAG_STRING;
+use logic::word::TAG_TEXT;
+use logic::word::VARIABLE_0;
+
+pub(crate) const P: u32 = TAG_PROP * PAYLOADS;
+
+pub(crate) const S: u32 = TAG_STRING * PAYLOADS;
+
+const N: u32 = TAG_PRIN * PAYLOADS;
+
+pub(crate) const V0: u32 = VARIABLE_0;
+
+const V1: u32 = VARIABLE_0 + 1;
+
+const V2: u32 = VARIABLE_0 + 2;
+
+pub(crate) const C0: u32 = TAG_CONSTANT * PAYLOADS;
+
+pub(crate) const C2: u32 = C0 + 2;
+
+const C3: u32 = C0 + 3;
+
+pub(crate) const C9: u32 = C0 + 9;
+
+const SAYS: u32 = TAG_SAYS * PAYLOADS;
+
+const PI: u32 = TAG_PI * PAYLOADS;
+
+pub(crate) const APP: u32 = TAG_APP * PAYLOADS;
+
+pub(crate) const S7: u32 = TAG_TEXT * PAYLOADS + 7;
+
+pub(crate) const A0: u32 = TAG_NAME * PAYLOADS;
+
+const A3: u32 = A0 + 3;
+
+const SIGN0: u32 = TAG_SIGN * PAYLOADS;
+
+pub(crate) const SIGN3: u32 = SIGN0 + 3;
+
+pub(crate) const SIGN4: u32 = SIGN0 + 4;
+
+pub(crate) const RET: u32 = TAG_RET * PAYLOADS;
+
+const BIND: u32 = TAG_BIND * PAYLOADS;
+
+// The operations of the sample.
+pub(crate) const OPERATIONS: u32 = 1;
+
+// Lays block into out again and again, and last at its end.
+fn lay(block: &[u32], last: &[u32], out: &mut [u32]) {
+    let n = out.len();
+    let mut i = 0;
+    while i < n {
+        let left = n - i;
+        out[i] = if left <= last.len() {
+            last[last.len() - left]
+        } else if 0 < block.len() {
+            block[i % block.len()]
+        } else {
+            0
+        };
+        i += 1;
+    }
+}
+
+// C0 = Pi S P, C1 = Pi S Pi S P, C2 = Pi S P, C3 = Pi App C2 s7 P, with a length word before each.
+pub(crate) fn signature() -> [u32; 20] {
+    let first = [3, PI, S, P, 5, PI, S, PI, S, P];
+    let second = [3, PI, S, P, 5, PI, APP, C2, S7, P];
+    let mut words = [0u32; 20];
+    lay(&first, &second, &mut words);
+    words
+}
+
+// The proposition of r = Sign0 Pi S Pi N Pi Says V0 App C2 V1 App C0 V2.
+fn rule() -> [u32; 13] {
+    [PI, S, PI, N, PI, SAYS, V0, APP, C2, V1, APP, C0, V2]
+}
+
+// The rule list of r alone: principal, length, proposition.
+pub(crate) fn rules() -> [u32; 15] {
+    let head = [0, 13];
+    let proposition = rule();
+    let mut words = [0u32; 15];
+    lay(&head, &proposition, &mut words);
+    words
+}
+
+// p = Bind r Ret a0 App App App V0 s7 a3 Sign3 App C2 s7.
+pub(crate) fn proof() -> [u32; 27] {
+    let proposition = rule();
+    let body = [RET, A0, APP, APP, APP, V0, S7, A3, SIGN3, APP, C2, S7];
+    let mut words = [BIND; 27];
+    words[1] = SIGN0;
+    lay(&proposition, &body, &mut words[2..]);
+    words
+}
+
+// A = App C2 s7, which a3 says.
+pub(crate) fn statement() -> [u32; 3] {
+    [APP, C2, S7]
+}
+
+// Pi D, where D = Pi A Pi A A.
+fn long_domain() -> [u32; 12] {
+    [PI, PI, APP, C2, S7, PI, APP, C2, S7, APP, C2, S7]
+}
+
+// Pi D 18 times, Pi E 3 times and App C3 App V0 Sign3 A, where E = Pi Says a3 A A. A Sign makes the number of words even.
+pub(crate) fn statement_254() -> [u32; 254] {
+    let domain = [PI, PI, SAYS, A3, APP, C2, S7, APP, C2, S7];
+    let body = [APP, C3, APP, V0, SIGN3, APP, C2, S7];
+    let mut last = [0u32; 38];
+    lay(&domain, &body, &mut last);
+    let first = long_domain();
+    let mut words = [0u32; 254];
+    lay(&first, &last, &mut words);
+    words
+}
+
+// Pi D 21 times and A.
+pub(crate) fn statement_255() -> [u32; 255] {
+    let first = long_domain();
+    let last = statement();
+    let mut words = [0u32; 255];
+    lay(&first, &last, &mut words);
+    words
+}
+
+// Pi S 32 times and P.
+pub(crate) fn deep() -> [u32; 65] {
+    let first = [PI, S];
+    let last = [P];
+    let mut words = [0u32; 65];
+    lay(&first, &last, &mut words);
+    words
+}
