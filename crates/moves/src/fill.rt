@@ -1,6 +1,4 @@
 // Filling a body: a variable is replaced by a term, which is raised under each binder passed.
-use words::part::copy;
-use words::part::skip;
 use crate::shift::shift_into;
 use logic::word::ATOM;
 use logic::word::NODE;
@@ -9,6 +7,8 @@ use logic::word::VARIABLE;
 use logic::word::VARIABLE_0;
 use logic::word::kind;
 use logic::word::payload_of;
+use words::part::copy;
+use words::part::skip;
 ghost use Prim.Native.Nat.{ℕ, _+_, _-_, _≤_, _<_};
 ghost use lib.ListN.{length};
 ghost use Rattle.logic.specs.Term.{Term, var};

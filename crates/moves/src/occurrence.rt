@@ -1,11 +1,11 @@
 // Whether a variable occurs.
-use words::part::skip;
 use logic::word::ATOM;
 use logic::word::NODE;
 use logic::word::SIGN;
 use logic::word::VARIABLE;
 use logic::word::kind;
 use logic::word::payload_of;
+use words::part::skip;
 ghost use mathlib.Core.Path.{_≡_};
 ghost use Prim.Native.Nat.{_+_};
 ghost use Rattle.logic.specs.Term.{Term, size};

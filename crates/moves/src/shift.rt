@@ -1,6 +1,4 @@
 // Moving a term across binders.
-use words::part::copy;
-use words::part::skip;
 use logic::word::ATOM;
 use logic::word::NODE;
 use logic::word::SIGN;
@@ -8,6 +6,8 @@ use logic::word::VARIABLE;
 use logic::word::VARIABLE_0;
 use logic::word::kind;
 use logic::word::payload_of;
+use words::part::copy;
+use words::part::skip;
 ghost use mathlib.Core.Path.{_≡_};
 ghost use Prim.Native.Nat.{_+_, _-_, _≤_, _<_};
 ghost use lib.ListN.{length};

@@ -1,5 +1,4 @@
 // The signature list: a length word and a type for each constant.
-use typing::check::check_term;
 use logic::limit::MOST_CONSTANT_WORDS;
 use logic::limit::MOST_CONSTANTS;
 use logic::limit::MOST_NESTING;
@@ -11,6 +10,7 @@ use logic::word::TAG_PROP;
 use logic::word::TAG_STRING;
 use rules::derivation::Derivation;
 use rules::front::front_is;
+use typing::check::check_term;
 use words::part::same;
 ghost use mathlib.Core.Path.{_≡_};
 ghost use mathlib.Core.Bool.{true};

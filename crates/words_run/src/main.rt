@@ -10,11 +10,11 @@ use logic::word::TAG_SIGN;
 use logic::word::VARIABLE_0;
 use moves::fill::Filled;
 use moves::fill::fill_into;
+use moves::shift::shift_into;
 use words::nesting::Nesting;
 use words::nesting::nested;
 use words::read::Parse;
 use words::read::read_whole;
-use moves::shift::shift_into;
 ghost use Rattle.io.specs.Counts.{Counts};
 
 // P, C0, V0, and the words that have children.

@@ -63,7 +63,7 @@ enum-told : tie.Need-enum-told
 enum-told c = search needs
 
 addable-requires : tie.Need-addable-requires
-addable-requires c κs = let S = passed (c .before .before .before .before .before .before .before .before .before .before) in let T = statement-so (S .Σ) (S .constants .signature) (c .before .before .before .before .before .before .before .before .before .before .before .before .before .before .before .before .before .before .before .before .before .before .args .principal) (c .before .before .before .before .before .before .before .before .before .before .before .before .before .before .before .before .before .before .before .before .before .before .args .proposition .now) (c .before .before .before .before .check-statement .result) (c .before .before .before .before .check-statement .ensures (S .Σ) (c .before .before .before .before .before .before .before .before .before .before .before .before .before .before .before .before .before .before .before .before .before .before .args .principal) (S .constants)) (c  .enum-told .given .1) in record { rs = S .rs; reads = S .reads; term = T .term; is = T .term-is; short = T .short }
+addable-requires c κs = let S = passed (c .before .before .before .before .before .before .before .before .before .before) in let T = statement-so (S .Σ) (S .constants .signature) (c .before .before .before .before .before .before .before .before .before .before .before .before .before .before .before .before .before .before .before .before .before .before .args .principal) (c .before .before .before .before .before .before .before .before .before .before .before .before .before .before .before .before .before .before .before .before .before .before .args .proposition .now) (c .before .before .before .before .check-statement .result) (c .before .before .before .before .check-statement .ensures (S .Σ) (c .before .before .before .before .before .before .before .before .before .before .before .before .before .before .before .before .before .before .before .before .before .before .args .principal) (S .constants)) (c .enum-told .given .1) in record { rs = S .rs; reads = S .reads; term = T .term; is = T .term-is; short = T .short }
 
 same-length-3 : tie.Need-same-length-3
 same-length-3 c = search needs
