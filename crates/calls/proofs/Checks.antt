@@ -1,8 +1,7 @@
 -- A call's own tests, behind those that calls share; and the check of a term.
-use Prim.Native.Nat.{ℕ, _+_, _≤_}
+use Prim.Native.Nat.{ℕ, _≤_}
 use native.Mathlib.Omega.{arith}
 use mathlib.Core.Path.{_≡_, refl, sym, ap, ap₂, subst, _∙_, fun-ext}
-use mathlib.Core.Bool.{Bool, true, false, _&&_}
 use mathlib.Core.List.{List, []}
 use mathlib.Core.Option.{Option, some, none}
 use lib.Dec.{leb}
@@ -14,8 +13,8 @@ use Rattle.logic.specs.Result.{Result, ok, refused, _>>=_, _>>_, require, nowhe
 use Rattle.logic.specs.Term.{Term, encode, size}
 use Rattle.logic.specs.SignatureList.{signature, operations-test}
 use Rattle.logic.specs.Infer.{infer}
-use Rattle.logic.specs.Reading.{read-whole, first-unheld}
-use Rattle.logic.specs.Check.{term-of, check-term, Checked, WordsOf}
+use Rattle.logic.specs.Reading.{first-unheld}
+use Rattle.logic.specs.Check.{term-of, check-term, Checked}
 use Rattle.logic.proofs.Basics.{clash}
 use Rattle.logic.proofs.Words.{encode-size}
 use Rattle.logic.proofs.Check.{term-of-right}
@@ -29,10 +28,10 @@ use Rattle.typing.specs.Check.{Constants-of, typed-term, Judged}
 use Rattle.records.specs.Answers.{unheldOf}
 use Rattle.records.specs.declared.search.Unheld.{Unheld}
 use Rattle.records.specs.declared.search.Unheld.the-variants.{Nowhere, At}
-use Rattle.register.specs.Records.{Record, header, used, register-records, held}
+use Rattle.register.specs.Records.{Record, used, register-records, held}
 use Rattle.register.specs.Calls.{Lent, View, view, length-test, shared, on-register, Holding, signs-held, check-own, check-call}
 use Rattle.calls.specs.Answers.{Handed}
-use Rattle.calls.specs.Shared.{prepared, opened, Lent-so, Register-so, Prepared-as, Opened-as}
+use Rattle.calls.specs.Shared.{prepared, Lent-so, Prepared-as}
 use Rattle.calls.specs.declared.shared.Ready.{Ready}
 use Rattle.calls.specs.declared.shared.Ready.the-variants.{Constants, Fault}
 

@@ -1,33 +1,32 @@
 -- The tests that calls share.
-use Prim.Native.Nat.{ℕ, zero, suc, _+_, _-_, _≤_, _<_}
+use Prim.Native.Nat.{ℕ, _-_, _≤_, _<_}
 use native.Mathlib.Omega.{arith}
 use mathlib.Core.Path.{_≡_, refl, sym, ap, subst, _∙_}
 use mathlib.Core.Bool.{Bool, true, false, _&&_}
 use mathlib.Core.Option.{Option, some, none}
-use mathlib.Core.List.{List, [], _∷_, _++_}
-use lib.Dec.{leb, ltb, eqb}
-use lib.ListN.{length, take, drop, length-take}
+use mathlib.Core.List.{List, []}
+use lib.Dec.{leb, eqb}
+use lib.ListN.{length, take, drop}
 use borrow.Author.Tests.{le-leb, lt-leb, leb-true}
-use Rattle.logic.specs.Limits.{most-constants, most-constant-words, least-workspace, least-register, most-register, most-operations}
+use Rattle.logic.specs.Limits.{least-workspace, least-register, most-register, most-operations}
 use Rattle.logic.specs.Refusals.{workspace-short, register-length, register-broken, bad-signature, bad-number}
 use Rattle.logic.specs.Result.{Result, ok, refused, _>>=_, _>>_, require, known}
 use Rattle.logic.specs.Term.{Term}
-use Rattle.logic.specs.SignatureList.{at-constant, constant, constants, signature, operations, operations-test}
+use Rattle.logic.specs.SignatureList.{constants, signature, operations, operations-test}
 use Rattle.logic.proofs.Basics.{clash}
-use Rattle.logic.proofs.Results.{both-true, true-both}
-use Rattle.rules.specs.Scope.{Declared}
+use Rattle.logic.proofs.Results.{true-both}
 use Rattle.typing.specs.Check.{Constants-of}
 use Rattle.signature.specs.Listing.{Read-as}
 use Rattle.signature.proofs.Accepted.{signature-number, Constants-read}
 use Rattle.signature.specs.declared.list.Listed.{Listed}
-use Rattle.signature.specs.declared.list.Listed.the-variants.{Accepted, Bad}
+use Rattle.signature.specs.declared.list.Listed.the-variants.{Bad}
 use Rattle.records.specs.Answers.{contentsOf}
 use Rattle.records.specs.declared.walk.Contents.{Contents}
 use Rattle.records.specs.declared.walk.Contents.the-variants.{Broken, Whole}
 use Rattle.register.specs.Records.{Record, header, used, count, records, register-records}
-use Rattle.register.specs.Calls.{Lent, View, view, length-test, shared, on-register}
+use Rattle.register.specs.Calls.{Lent, View, view, length-test, shared}
 use Rattle.calls.specs.Answers.{number-of}
-use Rattle.calls.specs.Shared.{lengths-test, lent-of, signed, Signed-as, prepared, opened, Lent-so, Register-so, Prepared-as, Opened-as}
+use Rattle.calls.specs.Shared.{lengths-test, signed, Signed-as, prepared, opened, Lent-so, Prepared-as, Opened-as}
 use Rattle.calls.specs.declared.shared.Ready.{Ready}
 use Rattle.calls.specs.declared.shared.Ready.the-variants.{Constants, Fault}
 

@@ -1,9 +1,9 @@
 -- A request's own tests, one after the other, behind those that calls share.
-use Prim.Native.Nat.{ℕ, _+_, _*_, _-_, _≤_, _<_}
+use Prim.Native.Nat.{ℕ, _+_, _-_, _≤_, _<_}
 use native.Mathlib.Omega.{arith}
-use mathlib.Core.Path.{_≡_, refl, sym, ap, ap₂, subst, _∙_}
+use mathlib.Core.Path.{_≡_, refl, sym, ap, ap₂, _∙_}
 use mathlib.Core.Bool.{Bool, true, false, _&&_}
-use mathlib.Core.List.{List, [], _∷_}
+use mathlib.Core.List.{List}
 use lib.Dec.{leb, ltb}
 use lib.ListN.{length, take}
 use lib.Seq.{take-at}
@@ -18,7 +18,6 @@ use Rattle.logic.specs.Check.{check-term, Checked}
 use Rattle.logic.proofs.Basics.{clash}
 use Rattle.logic.proofs.Results.{both-true, true-both}
 use Rattle.logic.proofs.Words.{encode-size, InRange}
-use Rattle.words.specs.Place.{Is}
 use Rattle.words.specs.Typed.{TypeAt}
 use Rattle.words.proofs.Places.{end-of}
 use Rattle.words.proofs.Types.{in-range}
@@ -29,18 +28,18 @@ use Rattle.rules.specs.declared.derivation.Verdict.{Verdict}
 use Rattle.rules.specs.declared.derivation.Verdict.the-variants.{Passed, Fault}
 use Rattle.typing.specs.Check.{typed-term, Judged, verdict-of}
 use Rattle.typing.proofs.Checks.{and-false}
-use Rattle.records.specs.Answers.{Readable, Room, unheldOf}
+use Rattle.records.specs.Answers.{Room, unheldOf}
 use Rattle.records.specs.declared.search.Unheld.{Unheld}
 use Rattle.records.specs.declared.search.Unheld.the-variants.{Nowhere, At}
 use Rattle.records.proofs.Adds.{entry-length, room}
-use Rattle.register.specs.Records.{Record, used, held, words-of, register-records, appended}
-use Rattle.register.specs.Calls.{Lent, View, view, payload, permission, entry, fits, signs-held, request-own, request-call, after-request}
+use Rattle.register.specs.Records.{Record, used, held, words-of, appended}
+use Rattle.register.specs.Calls.{Lent, payload, permission, entry, signs-held, request-own, request-call, after-request}
 use Rattle.register.specs.Succeeds.{Grantable}
 use Rattle.register.proofs.Succeeds.{demand2}
 use Rattle.register.proofs.Words.{unbroken-right}
 use Rattle.calls.specs.Shared.{prepared, Prepared-as}
 use Rattle.calls.specs.declared.shared.Ready.{Ready}
-use Rattle.calls.specs.declared.shared.Ready.the-variants.{Constants, Fault as Unready}
+use Rattle.calls.specs.declared.shared.Ready.the-variants.{Fault as Unready}
 use Rattle.calls.proofs.Checks.{Passed-so, not-prepared, typed-so, Typed-so, typed-refused, Type-found, type-found, type-refused, unheld-found, all-held}
 use Rattle.request.specs.Requested.{Requested, proved-tests}
 
@@ -73,22 +72,22 @@ abbrev in-turn : Bool → Result (Unit {0}) → Bool → Result (Unit {0})
 in-turn a s b = require a another-proposition 0 >> (s >> require b register-full 0)
 
 module _ (rs : List Record) (reg : List ℕ) (i v u : ℕ) (p : List ℕ) (t A : Term) (wanted : Bool) (right : wanted ≡ same A (permission i v)) where
-  entry-fits : Bool
+  abbrev entry-fits : Bool
   entry-fits = leb (used reg + length (words-of (entry i v u p))) (length reg)
 
   pub another : wanted ≡ false → Fault another-proposition 0 ≡ verdict-of (proved-tests rs reg i v u p t A)
-  another q = sym (ap (λ (b : Bool). verdict-of (in-turn b (signs-held (held rs) t) (leb (used reg + length (words-of (entry i v u p))) (length reg)))) (sym right ∙ q))
+  another q = sym (ap (λ (b : Bool). verdict-of (in-turn b (signs-held (held rs) t) entry-fits)) (sym right ∙ q))
 
   module _ (q : wanted ≡ true) (x : Unheld) (e : x ≡ unheldOf (first-unheld (λ a c. held rs a (encode c)) 0 t)) where
-    wanted-proved : proved-tests rs reg i v u p t A ≡ (signs-held (held rs) t >> require (leb (used reg + length (words-of (entry i v u p))) (length reg)) register-full 0)
-    wanted-proved = ap (λ (b : Bool). in-turn b (signs-held (held rs) t) (leb (used reg + length (words-of (entry i v u p))) (length reg))) (sym right ∙ q)
+    wanted-proved : proved-tests rs reg i v u p t A ≡ (signs-held (held rs) t >> require entry-fits register-full 0)
+    wanted-proved = ap (λ (b : Bool). in-turn b (signs-held (held rs) t) entry-fits) (sym right ∙ q)
 
     pub unheld : (place : ℕ) → x ≡ At place → Fault not-held place ≡ verdict-of (proved-tests rs reg i v u p t A)
-    unheld place f = sym (ap verdict-of (wanted-proved ∙ ap (λ s. s >> require (leb (used reg + length (words-of (entry i v u p))) (length reg)) register-full 0) (unheld-found (held rs) t x place e f)))
+    unheld place f = sym (ap verdict-of (wanted-proved ∙ ap (λ s. s >> require entry-fits register-full 0) (unheld-found (held rs) t x place e f)))
 
     module _ (f : x ≡ Nowhere) where
-      signs-found : proved-tests rs reg i v u p t A ≡ require (leb (used reg + length (words-of (entry i v u p))) (length reg)) register-full 0
-      signs-found = wanted-proved ∙ ap (λ s. s >> require (leb (used reg + length (words-of (entry i v u p))) (length reg)) register-full 0) (all-held (held rs) t x e f)
+      signs-found : proved-tests rs reg i v u p t A ≡ require entry-fits register-full 0
+      signs-found = wanted-proved ∙ ap (λ s. s >> require entry-fits register-full 0) (all-held (held rs) t x e f)
 
       pub full : length reg - used reg < length p + 13 → Fault register-full 0 ≡ verdict-of (proved-tests rs reg i v u p t A)
       full h = sym (ap verdict-of (signs-found ∙ ap (λ (b : Bool). require b register-full 0) (lt-leb (used reg + length (words-of (entry i v u p))) (length reg) (omega (arith, entry-length i v u p)))))

@@ -1,13 +1,13 @@
 -- A say's own tests, one after the other, behind those that calls share.
-use Prim.Native.Nat.{ℕ, suc, _+_, _-_, _≤_, _<_}
+use Prim.Native.Nat.{ℕ, _+_, _-_, _≤_, _<_}
 use native.Mathlib.Omega.{arith}
 use mathlib.Core.Path.{_≡_, refl, sym, ap, _∙_}
 use mathlib.Core.Bool.{Bool, true, false, not}
 use mathlib.Core.List.{List, [], _∷_}
-use lib.Dec.{leb, ltb, eqb}
+use lib.Dec.{leb, eqb}
 use lib.ListN.{length}
 use borrow.Author.Tests.{le-leb, lt-leb, le-ltb, lt-ltb, eq-eqb, ne-eqb}
-use Rattle.logic.specs.Limits.{payloads, most-words, most-statement-words, most-statement-nesting}
+use Rattle.logic.specs.Limits.{payloads, most-words}
 use Rattle.logic.specs.Refusals.{bad-number, desk-says, not-held, register-full}
 use Rattle.logic.specs.Result.{Result, ok, refused, _>>=_, _>>_, require, pick}
 use Rattle.logic.specs.Term.{Term, encode}
@@ -20,18 +20,18 @@ use Rattle.words.specs.Place.{Is}
 use Rattle.rules.specs.declared.derivation.Verdict.{Verdict}
 use Rattle.rules.specs.declared.derivation.Verdict.the-variants.{Passed, Fault as Refusal}
 use Rattle.typing.specs.Check.{verdict-of}
-use Rattle.records.specs.Answers.{Readable, Room, unheldOf}
+use Rattle.records.specs.Answers.{Room, unheldOf}
 use Rattle.records.specs.declared.search.Unheld.{Unheld}
 use Rattle.records.specs.declared.search.Unheld.the-variants.{Nowhere, At}
 use Rattle.records.proofs.Adds.{statement-words, room}
-use Rattle.register.specs.Records.{Record, used, held, words-of, register-records, appended, statement, say-kind}
-use Rattle.register.specs.Calls.{Lent, payload, signs-held, say-own, say-call, after-say}
-use Rattle.register.specs.Succeeds.{Sayable, Adds, held-before, added-now}
+use Rattle.register.specs.Records.{Record, used, held, words-of, appended, statement, say-kind}
+use Rattle.register.specs.Calls.{Lent, say-own, say-call, after-say}
+use Rattle.register.specs.Succeeds.{Adds, added-now}
 use Rattle.register.proofs.Succeeds.{demand2}
 use Rattle.register.proofs.Words.{unbroken-right}
 use Rattle.calls.specs.Shared.{prepared, Prepared-as}
 use Rattle.calls.specs.declared.shared.Ready.{Ready}
-use Rattle.calls.specs.declared.shared.Ready.the-variants.{Constants, Fault as Unready}
+use Rattle.calls.specs.declared.shared.Ready.the-variants.{Fault as Unready}
 use Rattle.calls.proofs.Checks.{Passed-so, not-prepared, unheld-found, all-held}
 use Rattle.say.specs.Said.{said-of, Says-so, stated-tests}
 use Rattle.say.specs.declared.Said.{Said}

@@ -15,7 +15,7 @@ use Rattle.logic.proofs.Basics.{clash}
 use Rattle.typing.specs.Check.{Constants-of}
 use Rattle.signature.specs.Listing.{Read-as}
 use Rattle.signature.specs.declared.list.Listed.{Listed}
-use Rattle.signature.specs.declared.list.Listed.the-variants.{Accepted, Bad}
+use Rattle.signature.specs.declared.list.Listed.the-variants.{Accepted}
 
 test-number : (b : Bool) (m at : ℕ) (r : Result (List Term)) {k p : ℕ} → (r ≡ refused k p → k ≡ m) → (require b m at >> r) ≡ refused k p → k ≡ m
 test-number true m at r f e = f e

@@ -8,7 +8,7 @@ use lib.ListN.{length, take}
 use Rattle.logic.specs.Limits.{least-workspace, most-constants, most-constant-words}
 use Rattle.logic.specs.Result.{Result, ok, refused}
 use Rattle.logic.specs.Term.{Term}
-use Rattle.logic.specs.SignatureList.{signature, constant}
+use Rattle.logic.specs.SignatureList.{constant}
 use Rattle.rules.specs.Scope.{Declared}
 use Rattle.typing.specs.Check.{Constants-of}
 use Rattle.signature.specs.declared.list.Listed.{Listed}

@@ -3,8 +3,6 @@ use Prim.Native.Nat.{ℕ, _≤_, _<_}
 use mathlib.Core.Path.{_≡_, refl, sym, ap, subst, _∙_}
 use mathlib.Core.Bool.{Bool}
 use mathlib.Core.List.{List}
-use lib.Dec.{leb}
-use lib.ListN.{length}
 use borrow.Author.Tests.{le-leb, lt-leb}
 use Rattle.logic.specs.Limits.{least-workspace, most-words, most-nesting}
 use Rattle.logic.specs.Refusals.{workspace-short, bad-signature}
@@ -18,7 +16,7 @@ use Rattle.rules.specs.declared.derivation.Derivation.the-variants.{Typed, Refu
 use Rattle.typing.specs.Check.{typed-term, Judged}
 use Rattle.signature.specs.Listing.{Read-as}
 use Rattle.signature.specs.declared.list.Listed.{Listed}
-use Rattle.signature.specs.declared.list.Listed.the-variants.{Accepted, Bad}
+use Rattle.signature.specs.declared.list.Listed.the-variants.{Bad}
 use Rattle.signature.proofs.Accepted.{signature-number, Constants-read}
 use Rattle.timed.specs.Timed.{tested, number-of}
 

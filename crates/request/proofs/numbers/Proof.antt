@@ -1,6 +1,4 @@
 use Rattle.request.proofs.Grants.{not-below, extract-over, others-in-range}
-use borrow.Author.Needs.{needs}
-use native.Mathlib.Omega.{arith}
 use Rattle.request.proofs.numbers.Statement.{statement}
 use Rattle.request.proofs.numbers.Tie as tie
 use Rattle.request.proofs.numbers.Reads as reads

@@ -2,7 +2,6 @@ use mathlib.Core.Path.{refl, sym}
 use lib.Seq.{length-take-le}
 use Rattle.logic.specs.Term.{encode}
 use Rattle.request.proofs.Grants.{permission-found}
-use native.Mathlib.Omega.{arith}
 use borrow.Author.Needs.{needs}
 use Rattle.request.proofs.permits.Statement.{statement}
 use Rattle.request.proofs.permits.Tie as tie

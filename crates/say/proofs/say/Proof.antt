@@ -2,7 +2,6 @@ use lib.ListN.{length}
 use Rattle.register.specs.Calls.{Lent}
 use Rattle.calls.specs.Shared.{lent-of}
 use Rattle.say.proofs.Statements.{say-room, say-added, say-held, say-refused}
-use native.Mathlib.Omega.{arith}
 use borrow.Author.Needs.{needs}
 use Rattle.say.proofs.say.Statement.{statement}
 use Rattle.say.proofs.say.Tie as tie

@@ -3,8 +3,7 @@ use Rattle.moves.proofs.Fills.{done-is}
 use Rattle.words.proofs.Parses.{whole-term}
 use Rattle.words.proofs.Places.{is-at, size-is}
 use Rattle.logic.specs.Move.{fillAt}
-use mathlib.Core.Path.{_≡_, sym, _∙_}
-use Prim.Native.Nat.{ℕ, _≤_}
+use mathlib.Core.Path.{sym, _∙_}
 use native.Mathlib.Omega.{arith}
 use borrow.Author.Needs.{needs}
 use Rattle.words_run.proofs.filled.Statement.{statement}

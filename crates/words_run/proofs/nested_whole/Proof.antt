@@ -1,7 +1,6 @@
 use Rattle.words.proofs.Parses.{whole-term}
 use Rattle.words.proofs.Places.{is-at}
-use mathlib.Core.Path.{_≡_, sym, _∙_}
-use native.Mathlib.Omega.{arith}
+use mathlib.Core.Path.{sym, _∙_}
 use borrow.Author.Needs.{needs}
 use Rattle.words_run.proofs.nested_whole.Statement.{statement}
 use Rattle.words_run.proofs.nested_whole.Tie as tie

@@ -2,13 +2,9 @@ use Rattle.io.proofs.Counting.{counts}
 use Rattle.words_run.proofs.Amounts.{near}
 use Rattle.words.proofs.Parses.{whole-term}
 use Rattle.words.proofs.Places.{is-at}
-use Rattle.logic.specs.Limits.{payloads}
-use mir.Facts.{toZ-ofZ}
 use mir.Val.{toZ, ofZ}
 use mir.Syntax.{w32}
-use lib.IntN.{natAbs}
-use mathlib.Core.Path.{_≡_, sym, _∙_}
-use Prim.Native.Nat.{ℕ, _≤_}
+use mathlib.Core.Path.{sym, _∙_}
 use native.Mathlib.Omega.{arith}
 use borrow.Author.Needs.{needs}
 use Rattle.words_run.proofs.shifted.Statement.{statement}

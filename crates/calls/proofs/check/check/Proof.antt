@@ -1,7 +1,6 @@
 use mathlib.Core.Path.{sym}
 use lib.Seq.{length-take-le}
 use Rattle.calls.proofs.Checks.{words-within, handed-type, handed-nothing}
-use native.Mathlib.Omega.{arith}
 use borrow.Author.Needs.{needs}
 use Rattle.calls.proofs.check.check.Statement.{statement}
 use Rattle.calls.proofs.check.check.Tie as tie

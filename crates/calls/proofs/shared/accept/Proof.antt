@@ -1,9 +1,7 @@
 use mathlib.Core.Path.{sym}
 use lib.Seq.{length-take-le}
-use Prim.Native.Nat.{ℕ}
 use Rattle.calls.proofs.SharedTests.{signature-bad, operations-fit, operations-unfit}
 use Rattle.signature.proofs.Accepted.{Constants-read, constants-read, count-within}
-use native.Mathlib.Omega.{arith}
 use borrow.Author.Needs.{needs}
 use Rattle.calls.proofs.shared.accept.Statement.{statement}
 use Rattle.calls.proofs.shared.accept.Tie as tie

@@ -2,7 +2,6 @@ use mathlib.Core.Path.{sym, _∙_}
 use lib.ListN.{length}
 use Rattle.calls.specs.Shared.{lent-of}
 use Rattle.calls.proofs.SharedTests.{Lengths, lengths-fine, opened-as, opened-refused}
-use native.Mathlib.Omega.{arith}
 use borrow.Author.Needs.{needs}
 use Rattle.calls.proofs.shared.lend.Statement.{statement}
 use Rattle.calls.proofs.shared.lend.Tie as tie

@@ -1,6 +1,4 @@
 use Rattle.calls.proofs.SharedTests.{short-workspace, short-register, long-register, fine-lengths}
-use borrow.Author.Needs.{needs}
-use native.Mathlib.Omega.{arith}
 use Rattle.calls.proofs.shared.lengths.Statement.{statement}
 use Rattle.calls.proofs.shared.lengths.Tie as tie
 use Rattle.calls.proofs.shared.lengths.Reads as reads

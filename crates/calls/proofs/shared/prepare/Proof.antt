@@ -2,7 +2,6 @@ use mathlib.Core.Path.{sym, _∙_}
 use lib.ListN.{length}
 use Rattle.calls.specs.Shared.{lent-of}
 use Rattle.calls.proofs.SharedTests.{Lengths, lengths-fine, prepared-refused, prepared-broken, prepared-as}
-use native.Mathlib.Omega.{arith}
 use borrow.Author.Needs.{needs}
 use Rattle.calls.proofs.shared.prepare.Statement.{statement}
 use Rattle.calls.proofs.shared.prepare.Tie as tie

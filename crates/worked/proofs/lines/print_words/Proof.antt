@@ -1,7 +1,6 @@
 use Prim.Native.Nat.{_-_, _≤_}
 use lib.ListN.{length}
 use borrow.Author.Needs.{needs}
-use native.Mathlib.Omega.{arith}
 use Rattle.worked.proofs.lines.print_words.Statement.{statement}
 use Rattle.worked.proofs.lines.print_words.Tie as tie
 use Rattle.worked.proofs.lines.print_words.Reads as reads
