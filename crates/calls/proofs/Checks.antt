@@ -3,7 +3,6 @@ use Prim.Native.Nat.{ℕ, _≤_}
 use native.Mathlib.Omega.{arith}
 use mathlib.Core.Path.{_≡_, refl, sym, ap, ap₂, subst, _∙_, fun-ext}
 use mathlib.Core.List.{List, []}
-use mathlib.Core.Option.{Option, some, none}
 use lib.Dec.{leb}
 use lib.ListN.{length, take, length-take}
 use lib.Seq.{take-at}
@@ -28,6 +27,7 @@ use Rattle.typing.specs.Check.{Constants-of, typed-term, Judged}
 use Rattle.records.specs.Answers.{unheldOf}
 use Rattle.records.specs.declared.search.Unheld.{Unheld}
 use Rattle.records.specs.declared.search.Unheld.the-variants.{Nowhere, At}
+use Rattle.records.proofs.Told.{unheld-told, held-told}
 use Rattle.register.specs.Records.{Record, used, register-records, held}
 use Rattle.register.specs.Calls.{Lent, View, view, length-test, shared, on-register, Holding, signs-held, check-own, check-call}
 use Rattle.calls.specs.Answers.{Handed}
@@ -154,20 +154,10 @@ judged-refused o end new m p e = subst (λ (x : Result Term). Judged x end new (
 -- test 14
 
 pub unheld-found : (h : Holding) (t : Term) (u : Unheld) (p : ℕ) → u ≡ unheldOf (first-unheld (λ a q. h a (encode q)) 0 t) → u ≡ At p → signs-held h t ≡ refused not-held p
-unfolding unheldOf
-unheld-found h t u p e q = go (first-unheld (λ a q. h a (encode q)) 0 t) (sym q ∙ e)
-  where
-    go : (x : Option ℕ) → At p ≡ unheldOf x → nowhere not-held x ≡ refused not-held p
-    go none f = absurd (clash (cc))
-    go (some p′) f = cc
+unheld-found h t u p e q = ap (nowhere not-held) (unheld-told (first-unheld (λ a q. h a (encode q)) 0 t) u p e q)
 
 pub all-held : (h : Holding) (t : Term) (u : Unheld) → u ≡ unheldOf (first-unheld (λ a q. h a (encode q)) 0 t) → u ≡ Nowhere → signs-held h t ≡ ok tt
-unfolding unheldOf
-all-held h t u e q = go (first-unheld (λ a q. h a (encode q)) 0 t) (sym q ∙ e)
-  where
-    go : (x : Option ℕ) → Nowhere ≡ unheldOf x → nowhere not-held x ≡ ok tt
-    go none f = refl
-    go (some p′) f = absurd (clash (cc))
+all-held h t u e q = ap (nowhere not-held) (held-told (first-unheld (λ a q. h a (encode q)) 0 t) u e q)
 
 -- ---- check
 

@@ -10,7 +10,7 @@ use lib.ListN.{length, take, drop}
 use borrow.Author.Tests.{le-leb, lt-leb, leb-true}
 use Rattle.logic.specs.Limits.{least-workspace, least-register, most-register, most-operations}
 use Rattle.logic.specs.Refusals.{workspace-short, register-length, register-broken, bad-signature, bad-number}
-use Rattle.logic.specs.Result.{Result, ok, refused, _>>=_, _>>_, require, known}
+use Rattle.logic.specs.Result.{Result, ok, refused, _>>=_, _>>_, require, known, number-of}
 use Rattle.logic.specs.Term.{Term}
 use Rattle.logic.specs.SignatureList.{constants, signature, operations, operations-test}
 use Rattle.logic.proofs.Basics.{clash}
@@ -25,7 +25,6 @@ use Rattle.records.specs.declared.walk.Contents.{Contents}
 use Rattle.records.specs.declared.walk.Contents.the-variants.{Broken, Whole}
 use Rattle.register.specs.Records.{Record, header, used, count, records, register-records}
 use Rattle.register.specs.Calls.{Lent, View, view, length-test, shared}
-use Rattle.calls.specs.Answers.{number-of}
 use Rattle.calls.specs.Shared.{lengths-test, signed, Signed-as, prepared, opened, Lent-so, Prepared-as, Opened-as}
 use Rattle.calls.specs.declared.shared.Ready.{Ready}
 use Rattle.calls.specs.declared.shared.Ready.the-variants.{Constants, Fault}

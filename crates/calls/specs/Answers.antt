@@ -2,17 +2,8 @@
 use Prim.Native.Nat.{ℕ}
 use mathlib.Core.Path.{_≡_}
 use mathlib.Core.List.{List, []}
-use Rattle.logic.specs.Result.{Result, ok, refused}
+use Rattle.logic.specs.Result.{Result, ok, refused, number-of, place-of}
 use Rattle.logic.specs.Term.{Term, encode}
-
--- "Success answers 0 at place 0"
-abbrev pub number-of : {X : Type 0} → Result X → ℕ
-number-of (ok x) = 0
-number-of (refused m p) = m
-
-abbrev pub place-of : {X : Type 0} → Result X → ℕ
-place-of (ok x) = 0
-place-of (refused m p) = p
 
 -- "A refusal gives .. an empty part"
 abbrev pub type-of : Result Term → List ℕ

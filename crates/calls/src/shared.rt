@@ -16,7 +16,7 @@ ghost use mathlib.Core.Path.{_≡_};
 ghost use lib.ListN.{length};
 ghost use Rattle.logic.specs.Limits.{most-constants};
 ghost use Rattle.signature.specs.Listing.{Readable};
-ghost use Rattle.calls.specs.Answers.{number-of};
+ghost use Rattle.logic.specs.Result.{number-of};
 ghost use Rattle.calls.specs.Shared.{lengths-test, lent-of, signed, Signed-as, prepared, Prepared-as, opened, Opened-as};
 
 // How many constants the signature has; or a test refuses.

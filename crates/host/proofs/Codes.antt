@@ -7,7 +7,7 @@ use mathlib.Core.List.{List}
 use lib.ListN.{length}
 use lib.Seq.{length-take-le}
 use Rattle.logic.specs.Refusals.{past-last-record}
-use Rattle.logic.specs.Result.{Result, ok, refused}
+use Rattle.logic.specs.Result.{Result, ok, refused, number-of, place-of}
 use Rattle.logic.specs.Term.{Term}
 use Rattle.logic.proofs.Basics.{clash}
 use Rattle.rules.specs.declared.derivation.Derivation.{Derivation}
@@ -17,7 +17,6 @@ use Rattle.rules.specs.declared.derivation.Verdict.the-variants.{Passed, Fault}
 use Rattle.typing.specs.Check.{Judged, verdict-of}
 use Rattle.register.specs.Calls.{Lent, open-call, say-call, after-say, request-call, check-call}
 use Rattle.register.proofs.Bounds.{Number, open-bound, say-bound, request-bound, check-bound}
-use Rattle.calls.specs.Answers.{number-of, place-of}
 use Rattle.calls.proofs.Checks.{words-within, handed-type, handed-nothing}
 use Rattle.say.specs.Said.{said-of, Says-so}
 use Rattle.say.specs.declared.Said.{Said}

@@ -10,14 +10,14 @@ use lib.Seq.{take-at}
 use borrow.Author.Tests.{leb-true}
 use Rattle.logic.specs.Limits.{least-register, most-register}
 use Rattle.logic.specs.Refusals.{past-last-record}
-use Rattle.logic.specs.Result.{Result, ok, refused, _>>=_, _>>_, known}
+use Rattle.logic.specs.Result.{Result, ok, refused, _>>=_, _>>_, known, number-of}
 use Rattle.logic.proofs.Basics.{clash}
 use Rattle.logic.proofs.Results.{bound, tested, found, both-true}
 use Rattle.register.specs.Records.{Record, header, words-of, register-records}
 use Rattle.register.specs.Calls.{read-call}
 use Rattle.register.proofs.Bounds.{read-bound}
 use Rattle.register.proofs.Words.{words-append}
-use Rattle.records.specs.Answers.{From, Among, body-of, kind-of, number-of}
+use Rattle.records.specs.Answers.{From, Among, body-of, kind-of}
 use Rattle.records.proofs.Stands.{Reached, from-start, reached-bounds, read-there}
 use Rattle.host.specs.Answers.{number-unit, code-of, record-head, start-of, Read-to}
 
@@ -50,7 +50,6 @@ pub record Present (reg : List ℕ) (k : ℕ) : Type 0 where
 
 module _ (reg : List ℕ) (k m : ℕ) (n : m ≡ number-of (read-call reg k)) where
   refused-is : (m ≡ 0 → ⊥) → read-call reg k ≡ refused m 0
-  unfolding number-of
   refused-is ne = go (read-call reg k) refl n
     where
       go : (x : Result Record) → read-call reg k ≡ x → m ≡ number-of x → x ≡ refused m 0
@@ -74,7 +73,6 @@ module _ (reg : List ℕ) (k m : ℕ) (n : m ≡ number-of (read-call reg k)) wh
       }
 
   pub present : m ≡ 0 → Present reg k
-  unfolding number-of
   present z = go (read-call reg k) refl n
     where
       go : (x : Result Record) → read-call reg k ≡ x → m ≡ number-of x → Present reg k

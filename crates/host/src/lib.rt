@@ -119,7 +119,7 @@ pub extern "C" fn aura0_check(
     ensures { λ r. ⌜ r ≡ code-of (check-call (lent-of (now (signature .entry)) n (length (now (workspace .entry)))) (now (register .entry)) (now (term .entry))) ⌝ }
 {
     let mut number = 0;
-    let mut place = 0;
+    let mut at = 0;
     check(
         signature,
         n,
@@ -127,9 +127,9 @@ pub extern "C" fn aura0_check(
         term,
         workspace,
         &mut number,
-        &mut place,
+        &mut at,
     );
-    code(number, place)
+    code(number, at)
 }
 
 // Check: the type is the first `type_words` words of the workspace.

@@ -6,3 +6,4 @@ pub mod Adds
 pub mod RuleList
 pub mod Openings
 pub mod Writes
+pub mod Told

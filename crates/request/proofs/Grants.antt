@@ -1,7 +1,7 @@
 -- A request's own tests, one after the other, behind those that calls share.
 use Prim.Native.Nat.{ℕ, _+_, _-_, _≤_, _<_}
 use native.Mathlib.Omega.{arith}
-use mathlib.Core.Path.{_≡_, refl, sym, ap, ap₂, _∙_}
+use mathlib.Core.Path.{_≡_, sym, ap, ap₂, _∙_}
 use mathlib.Core.Bool.{Bool, true, false, _&&_}
 use mathlib.Core.List.{List}
 use lib.Dec.{leb, ltb}
@@ -10,16 +10,14 @@ use lib.Seq.{take-at}
 use borrow.Author.Tests.{le-leb, lt-leb, le-ltb, lt-ltb, ltb-true}
 use Rattle.logic.specs.Limits.{payloads, most-operations, most-words, most-nesting}
 use Rattle.logic.specs.Refusals.{bad-number, another-proposition, not-held, register-full}
-use Rattle.logic.specs.Result.{Result, ok, refused, _>>=_, _>>_, require}
+use Rattle.logic.specs.Result.{Result, ok, _>>=_, _>>_, require}
 use Rattle.logic.specs.Term.{Term, encode, size}
 use Rattle.logic.specs.Infer.{same}
 use Rattle.logic.specs.Reading.{first-unheld}
 use Rattle.logic.specs.Check.{check-term, Checked}
-use Rattle.logic.proofs.Basics.{clash}
 use Rattle.logic.proofs.Results.{both-true, true-both}
 use Rattle.logic.proofs.Words.{encode-size, InRange}
 use Rattle.words.specs.Typed.{TypeAt}
-use Rattle.words.proofs.Places.{end-of}
 use Rattle.words.proofs.Types.{in-range}
 use Rattle.words.proofs.Sames.{same-types}
 use Rattle.rules.specs.declared.derivation.Derivation.{Derivation}
@@ -28,20 +26,21 @@ use Rattle.rules.specs.declared.derivation.Verdict.{Verdict}
 use Rattle.rules.specs.declared.derivation.Verdict.the-variants.{Passed, Fault}
 use Rattle.typing.specs.Check.{typed-term, Judged, verdict-of}
 use Rattle.typing.proofs.Checks.{and-false}
+use Rattle.typing.proofs.Verdicts.{fault-told, passed-told}
 use Rattle.records.specs.Answers.{Room, unheldOf}
 use Rattle.records.specs.declared.search.Unheld.{Unheld}
 use Rattle.records.specs.declared.search.Unheld.the-variants.{Nowhere, At}
 use Rattle.records.proofs.Adds.{entry-length, room}
-use Rattle.register.specs.Records.{Record, used, held, words-of, appended}
-use Rattle.register.specs.Calls.{Lent, payload, permission, entry, signs-held, request-own, request-call, after-request}
+use Rattle.register.specs.Records.{Record, used, held, words-of, appended, entry-extra}
+use Rattle.register.specs.Calls.{Lent, payload, permission, entry, signs-held, view, proved-own, request-own, request-call, after-request}
 use Rattle.register.specs.Succeeds.{Grantable}
 use Rattle.register.proofs.Succeeds.{demand2}
 use Rattle.register.proofs.Words.{unbroken-right}
 use Rattle.calls.specs.Shared.{prepared, Prepared-as}
 use Rattle.calls.specs.declared.shared.Ready.{Ready}
 use Rattle.calls.specs.declared.shared.Ready.the-variants.{Fault as Unready}
-use Rattle.calls.proofs.Checks.{Passed-so, not-prepared, typed-so, Typed-so, typed-refused, Type-found, type-found, type-refused, unheld-found, all-held}
-use Rattle.request.specs.Requested.{Requested, proved-tests}
+use Rattle.calls.proofs.Checks.{Passed-so, not-prepared, typed-so, Typed-so, typed-refused, Type-found, type-found, type-refused, unheld-found, all-held, words-within}
+use Rattle.request.specs.Requested.{Requested}
 
 -- ---- test 5 of the call's own numbers
 
@@ -71,28 +70,31 @@ permission-found ws words n i v r a b w f A T e =
 abbrev in-turn : Bool → Result (Unit {0}) → Bool → Result (Unit {0})
 in-turn a s b = require a another-proposition 0 >> (s >> require b register-full 0)
 
-module _ (rs : List Record) (reg : List ℕ) (i v u : ℕ) (p : List ℕ) (t A : Term) (wanted : Bool) (right : wanted ≡ same A (permission i v)) where
+module _ (l : Lent) (Σ : List Term) (rs : List Record) (reg : List ℕ) (i v u : ℕ) (p : List ℕ) (t A : Term) (wanted : Bool) (right : wanted ≡ same A (permission i v)) where
+  abbrev tests : Result (Unit {0})
+  tests = proved-own i v u p (record { term = t; type = A }) (view l (length reg) (used reg) rs Σ)
+
   abbrev entry-fits : Bool
   entry-fits = leb (used reg + length (words-of (entry i v u p))) (length reg)
 
-  pub another : wanted ≡ false → Fault another-proposition 0 ≡ verdict-of (proved-tests rs reg i v u p t A)
+  pub another : wanted ≡ false → Fault another-proposition 0 ≡ verdict-of (tests)
   another q = sym (ap (λ (b : Bool). verdict-of (in-turn b (signs-held (held rs) t) entry-fits)) (sym right ∙ q))
 
   module _ (q : wanted ≡ true) (x : Unheld) (e : x ≡ unheldOf (first-unheld (λ a c. held rs a (encode c)) 0 t)) where
-    wanted-proved : proved-tests rs reg i v u p t A ≡ (signs-held (held rs) t >> require entry-fits register-full 0)
+    wanted-proved : tests ≡ (signs-held (held rs) t >> require entry-fits register-full 0)
     wanted-proved = ap (λ (b : Bool). in-turn b (signs-held (held rs) t) entry-fits) (sym right ∙ q)
 
-    pub unheld : (place : ℕ) → x ≡ At place → Fault not-held place ≡ verdict-of (proved-tests rs reg i v u p t A)
+    pub unheld : (place : ℕ) → x ≡ At place → Fault not-held place ≡ verdict-of (tests)
     unheld place f = sym (ap verdict-of (wanted-proved ∙ ap (λ s. s >> require entry-fits register-full 0) (unheld-found (held rs) t x place e f)))
 
     module _ (f : x ≡ Nowhere) where
-      signs-found : proved-tests rs reg i v u p t A ≡ require entry-fits register-full 0
+      signs-found : tests ≡ require entry-fits register-full 0
       signs-found = wanted-proved ∙ ap (λ s. s >> require entry-fits register-full 0) (all-held (held rs) t x e f)
 
-      pub full : length reg - used reg < length p + 13 → Fault register-full 0 ≡ verdict-of (proved-tests rs reg i v u p t A)
+      pub full : length reg - used reg < length p + entry-extra → Fault register-full 0 ≡ verdict-of (tests)
       full h = sym (ap verdict-of (signs-found ∙ ap (λ (b : Bool). require b register-full 0) (lt-leb (used reg + length (words-of (entry i v u p))) (length reg) (omega (arith, entry-length i v u p)))))
 
-      pub enough : used reg ≤ length reg → length p + 13 ≤ length reg - used reg → Passed ≡ verdict-of (proved-tests rs reg i v u p t A)
+      pub enough : used reg ≤ length reg → length p + entry-extra ≤ length reg - used reg → Passed ≡ verdict-of (tests)
       enough w h = sym (ap verdict-of (signs-found ∙ ap (λ (b : Bool). require b register-full 0) (le-leb (used reg + length (words-of (entry i v u p))) (length reg) (omega (arith, entry-length i v u p)))))
 
 -- ---- all tests
@@ -104,7 +106,7 @@ module _ (l : Lent) (reg table p : List ℕ) (i v u : ℕ) (r : Ready) (P : Prep
   module _ (count : ℕ) (so : Passed-so l reg table r (request-own i v u p) P count) where
     -- the tests behind that of the numbers
     abbrev behind : Checked → Result (Unit {0})
-    behind c = proved-tests (so .rs) reg i v u p (c .term) (c .type)
+    behind c = proved-own i v u p c (view l (length reg) (used reg) (so .rs) (so .Σ))
 
     abbrev numbered : Bool → Result (Unit {0})
     numbered b = require b bad-number 0 >> (check-term (so .Σ) p >>= behind)
@@ -133,28 +135,20 @@ module _ (l : Lent) (reg table p : List ℕ) (i v u : ℕ) (r : Ready) (P : Prep
         term-here = typed-so (so .Σ) p (type-here .type) (type-here .is)
 
         pub words-inside : words ≤ length new
-        words-inside = omega (arith, type-here .words-are, end-of new 0 (type-here .type) (type-here .front .rest) (type-here .front .words))
+        words-inside = words-within _ _ new d J words end f
 
-        pub proved : (x : Verdict) → x ≡ verdict-of (proved-tests (so .rs) reg i v u p (term-here .term) (type-here .type)) → x ≡ verdict-of (request-call l reg i v u p)
+        pub proved : (x : Verdict) → x ≡ verdict-of (behind (record { term = term-here .term; type = type-here .type })) → x ≡ verdict-of (request-call l reg i v u p)
         proved x g = g ∙ sym (ap verdict-of (numbers-right ∙ ap (λ y. y >>= behind) (term-here .is)))
 
 -- ---- what a request leaves
 
 module _ (l : Lent) (reg p : List ℕ) (i v u : ℕ) (r : Verdict) (e : r ≡ verdict-of (request-call l reg i v u p)) where
   pub request-refused : (m place : ℕ) → r ≡ Fault m place → Requested (request-call l reg i v u p) reg i v u p reg r
-  request-refused m place q = record { answer = e; register = go (request-call l reg i v u p) e }
-    where
-      go : (o : Result (Unit {0})) → r ≡ verdict-of o → reg ≡ after-request o reg i v u p
-      go (ok x) f = absurd (clash (cc))
-      go (refused m′ place′) f = refl
+  request-refused m place q = record { answer = e; register = sym (ap (λ (o : Result (Unit {0})). after-request o reg i v u p) (fault-told (request-call l reg i v u p) r m place e q)) }
 
   module _ (q : r ≡ Passed) where
     granted : request-call l reg i v u p ≡ ok tt
-    granted = go (request-call l reg i v u p) (sym e ∙ q)
-      where
-        go : (o : Result (Unit {0})) → verdict-of o ≡ Passed → o ≡ ok tt
-        go (ok x) f = refl
-        go (refused m place) f = absurd (clash (cc))
+    granted = passed-told (request-call l reg i v u p) r e q .1
 
     pub grantable-now : Grantable l reg i v u p
     grantable-now = demand2 .grants l reg i v u p .0 granted

@@ -1,31 +1,21 @@
 -- What a request answers and leaves, by the definitions of `register`.
-use Prim.Native.Nat.{ℕ, _+_, _≤_, _<_}
+use Prim.Native.Nat.{ℕ, _≤_, _<_}
 use mathlib.Core.Path.{_≡_}
 use mathlib.Core.List.{List}
-use lib.Dec.{leb}
 use lib.ListN.{length}
 use Rattle.logic.specs.Limits.{payloads, most-words, most-operations}
-use Rattle.logic.specs.Refusals.{another-proposition, register-full}
-use Rattle.logic.specs.Result.{Result, ok, _>>=_, _>>_, require}
+use Rattle.logic.specs.Result.{Result, ok}
 use Rattle.logic.specs.Term.{Term}
-use Rattle.logic.specs.Infer.{same}
 use Rattle.words.specs.Place.{Is}
 use Rattle.rules.specs.declared.derivation.Verdict.{Verdict}
 use Rattle.typing.specs.Check.{verdict-of}
-use Rattle.register.specs.Records.{Record, used, held, words-of, register-records}
-use Rattle.register.specs.Calls.{permission, entry, signs-held, after-request}
+use Rattle.register.specs.Records.{Record, register-records}
+use Rattle.register.specs.Calls.{after-request}
 
 -- the answer, and the register afterwards
 pub record Requested (o : Result (Unit {0})) (old : List ℕ) (i v u : ℕ) (p new : List ℕ) (r : Verdict) : Type 0 where
   pub answer : r ≡ verdict-of o
   pub register : new ≡ after-request o old i v u p
-
--- tests 13, 14 and 16 of a request, whose proof t has the type A
-abbrev pub proved-tests : List Record → List ℕ → (i v u : ℕ) → List ℕ → (t A : Term) → Result (Unit {0})
-proved-tests rs reg i v u p t A = do
-  require (same A (permission i v)) another-proposition 0
-  signs-held (held rs) t
-  require (leb (used reg + length (words-of (entry i v u p))) (length reg)) register-full 0
 
 -- a proof whose type is the first n words of the workspace, and a register that is not broken
 pub record Provable (reg : List ℕ) (i v : ℕ) (p ws : List ℕ) (n : ℕ) : Type 0 where

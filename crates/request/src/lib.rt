@@ -35,10 +35,10 @@ ghost use Rattle.logic.specs.Infer.{same as sameTerm};
 ghost use Rattle.words.specs.Place.{Is};
 ghost use Rattle.words.specs.Typed.{TypeAt};
 ghost use Rattle.typing.specs.Check.{verdict-of};
-ghost use Rattle.register.specs.Records.{Record, register-records};
-ghost use Rattle.register.specs.Calls.{payload, permission, request-call};
+ghost use Rattle.register.specs.Records.{Record, used, register-records};
+ghost use Rattle.register.specs.Calls.{Lent, view, payload, permission, proved-own, request-call};
 ghost use Rattle.calls.specs.Shared.{lent-of};
-ghost use Rattle.request.specs.Requested.{Requested, Provable, proved-tests};
+ghost use Rattle.request.specs.Requested.{Requested, Provable};
 
 // Test 5 of the call's own numbers.
 fn numbers(n: u32, operation: u32, extract: u32, delivery: u32) -> bool
@@ -78,7 +78,7 @@ fn proves(
     n: usize,
 ) -> Verdict
     requires { ⌜ Provable (now register) operation extract (now proof) (now ws) n ⌝ }
-    ensures { λ r. ⌜ ((rs : List Record) → (delivery : ℕ) → (t A : Term) → register-records (now (register .entry)) ≡ ok rs → Is (now (proof .entry)) t → TypeAt (now (ws .entry)) 0 A → n ≡ size A → r ≡ verdict-of (proved-tests rs (now (register .entry)) operation extract delivery (now (proof .entry)) t A)) ⌝ }
+    ensures { λ r. ⌜ ((l : Lent) → (Σ : List Term) → (rs : List Record) → (delivery : ℕ) → (t A : Term) → register-records (now (register .entry)) ≡ ok rs → Is (now (proof .entry)) t → TypeAt (now (ws .entry)) 0 A → n ≡ size A → r ≡ verdict-of (proved-own operation extract delivery (now (proof .entry)) (record { term = t; type = A }) (view l (length (now (register .entry))) (used (now (register .entry))) rs Σ))) ⌝ }
 {
     let wanted = permits(ws, n, operation, extract);
     if !wanted {

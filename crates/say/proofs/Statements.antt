@@ -20,12 +20,13 @@ use Rattle.words.specs.Place.{Is}
 use Rattle.rules.specs.declared.derivation.Verdict.{Verdict}
 use Rattle.rules.specs.declared.derivation.Verdict.the-variants.{Passed, Fault as Refusal}
 use Rattle.typing.specs.Check.{verdict-of}
+use Rattle.typing.proofs.Verdicts.{fault-told, passed-told}
 use Rattle.records.specs.Answers.{Room, unheldOf}
 use Rattle.records.specs.declared.search.Unheld.{Unheld}
 use Rattle.records.specs.declared.search.Unheld.the-variants.{Nowhere, At}
 use Rattle.records.proofs.Adds.{statement-words, room}
-use Rattle.register.specs.Records.{Record, used, held, words-of, appended, statement, say-kind}
-use Rattle.register.specs.Calls.{Lent, say-own, say-call, after-say}
+use Rattle.register.specs.Records.{Record, used, held, words-of, appended, statement, statement-extra, say-kind}
+use Rattle.register.specs.Calls.{Lent, view, stated-own, say-own, say-call, after-say}
 use Rattle.register.specs.Succeeds.{Adds, added-now}
 use Rattle.register.proofs.Succeeds.{demand2}
 use Rattle.register.proofs.Words.{unbroken-right}
@@ -33,11 +34,11 @@ use Rattle.calls.specs.Shared.{prepared, Prepared-as}
 use Rattle.calls.specs.declared.shared.Ready.{Ready}
 use Rattle.calls.specs.declared.shared.Ready.the-variants.{Fault as Unready}
 use Rattle.calls.proofs.Checks.{Passed-so, not-prepared, unheld-found, all-held}
-use Rattle.say.specs.Said.{said-of, Says-so, stated-tests}
+use Rattle.say.specs.Said.{said-of, Says-so}
 use Rattle.say.specs.declared.Said.{Said}
 use Rattle.say.specs.declared.Said.the-variants.{Added, Held, Fault}
 
-statement-length : (a : ℕ) (q : List ℕ) → length (words-of (statement say-kind a q ∷ [])) ≡ length q + 3
+statement-length : (a : ℕ) (q : List ℕ) → length (words-of (statement say-kind a q ∷ [])) ≡ length q + statement-extra
 statement-length a q = omega (arith, ap length (statement-words say-kind a q))
 
 -- ---- tests 14 and 16, and whether the statement is held
@@ -45,25 +46,28 @@ statement-length a q = omega (arith, ap length (statement-words say-kind a q))
 abbrev in-turn : Result (Unit {0}) → Bool → Bool → Result Bool
 in-turn s h b = s >> pick h (ok false) (require b register-full 0 >> ok true)
 
-module _ (rs : List Record) (reg : List ℕ) (a : ℕ) (ws : List ℕ) (q : Term) (x : Unheld) (e : x ≡ unheldOf (first-unheld (λ b c. held rs b (encode c)) 0 q)) where
+module _ (l : Lent) (Σ : List Term) (rs : List Record) (reg : List ℕ) (a : ℕ) (ws : List ℕ) (q : Term) (x : Unheld) (e : x ≡ unheldOf (first-unheld (λ b c. held rs b (encode c)) 0 q)) where
+  abbrev tests : Result Bool
+  tests = stated-own a ws q (view l (length reg) (used reg) rs Σ)
+
   abbrev statement-fits : Bool
   statement-fits = leb (used reg + length (words-of (statement say-kind a ws ∷ []))) (length reg)
 
-  pub unheld : (place : ℕ) → x ≡ At place → Fault not-held place ≡ said-of (stated-tests rs reg a ws q)
+  pub unheld : (place : ℕ) → x ≡ At place → Fault not-held place ≡ said-of (tests)
   unheld place f = sym (ap (λ s. said-of (in-turn s (held rs a ws) statement-fits)) (unheld-found (held rs) q x place e f))
 
   module _ (f : x ≡ Nowhere) (h : Bool) (g : h ≡ held rs a ws) where
-    signs-found : (b : Bool) → h ≡ b → stated-tests rs reg a ws q ≡ pick b (ok false) (require statement-fits register-full 0 >> ok true)
+    signs-found : (b : Bool) → h ≡ b → tests ≡ pick b (ok false) (require statement-fits register-full 0 >> ok true)
     signs-found b k = ap (λ s. in-turn s (held rs a ws) statement-fits) (all-held (held rs) q x e f) ∙ ap (λ (y : Bool). pick y (ok false) (require statement-fits register-full 0 >> ok true)) (sym g ∙ k)
 
-    pub repeated : h ≡ true → Held ≡ said-of (stated-tests rs reg a ws q)
+    pub repeated : h ≡ true → Held ≡ said-of (tests)
     repeated k = sym (ap said-of (signs-found true k))
 
     module _ (k : h ≡ false) where
-      pub full : length reg - used reg < length ws + 3 → Fault register-full 0 ≡ said-of (stated-tests rs reg a ws q)
+      pub full : length reg - used reg < length ws + statement-extra → Fault register-full 0 ≡ said-of (tests)
       full l = sym (ap said-of (signs-found false k ∙ ap (λ (b : Bool). require b register-full 0 >> ok true) (lt-leb (used reg + length (words-of (statement say-kind a ws ∷ []))) (length reg) (omega (arith, statement-length a ws)))))
 
-      pub enough : used reg ≤ length reg → length ws + 3 ≤ length reg - used reg → Added ≡ said-of (stated-tests rs reg a ws q)
+      pub enough : used reg ≤ length reg → length ws + statement-extra ≤ length reg - used reg → Added ≡ said-of (tests)
       enough w l = sym (ap said-of (signs-found false k ∙ ap (λ (b : Bool). require b register-full 0 >> ok true) (le-leb (used reg + length (words-of (statement say-kind a ws ∷ []))) (length reg) (omega (arith, statement-length a ws)))))
 
 -- ---- tests 6 to 12
@@ -76,11 +80,10 @@ pub record Statement-so (Σ : List Term) (a : ℕ) (ws : List ℕ) : Type 0 wher
   pub short : length ws ≤ most-words
 
 pub statement-so : (Σ : List Term) → Signature Σ → (a : ℕ) (ws : List ℕ) (r : Verdict) → r ≡ verdict-of (check-statement Σ a ws) → r ≡ Passed → Statement-so Σ a ws
-statement-so Σ sig a ws r e q = go (check-statement Σ a ws) refl (sym q ∙ e)
-  where
-    go : (x : Result Term) → check-statement Σ a ws ≡ x → Passed ≡ verdict-of x → Statement-so Σ a ws
-    go (ok t) f g = let W = check-statement-right Σ sig ws a t .0 f .term in record { term = t; is = f; term-is = record { plain = W .plain; words = W .words }; short = omega (arith, W .not-more) }
-    go (refused m p) f g = absurd (clash (cc))
+statement-so Σ sig a ws r e q =
+    let (t, f) = passed-told (check-statement Σ a ws) r e q in
+    let W = check-statement-right Σ sig ws a t .0 f .term in
+    record { term = t; is = f; term-is = record { plain = W .plain; words = W .words }; short = omega (arith, W .not-more) }
 
 -- ---- all tests
 
@@ -90,7 +93,7 @@ module _ (l : Lent) (reg table ws : List ℕ) (a : ℕ) (r : Ready) (P : Prepare
 
   module _ (count : ℕ) (so : Passed-so l reg table r (say-own a ws) P count) where
     abbrev behind : Result Term → Result Bool
-    behind x = x >>= λ q. stated-tests (so .rs) reg a ws q
+    behind x = x >>= λ q. stated-own a ws q (view l (length reg) (used reg) (so .rs) (so .Σ))
 
     abbrev numbered : Bool → Bool → Result Bool
     numbered b d = require b bad-number 0 >> (require (not d) desk-says 0 >> behind (check-statement (so .Σ) a ws))
@@ -107,13 +110,9 @@ module _ (l : Lent) (reg table ws : List ℕ) (a : ℕ) (r : Ready) (P : Prepare
         numbers-right = so .is ∙ ap (λ (b : Bool). numbered b (eqb a 0)) (lt-ltb a payloads h) ∙ ap (numbered true) (ne-eqb a 0 n)
 
         pub not-stated : (m place : ℕ) → d ≡ Refusal m place → Fault m place ≡ said-of (say-call l reg a ws)
-        not-stated m place q = sym (ap said-of (numbers-right ∙ ap behind (go (check-statement (so .Σ) a ws) (sym e ∙ q))))
-          where
-            go : (x : Result Term) → verdict-of x ≡ Refusal m place → x ≡ refused m place
-            go (ok t) f = absurd (clash (cc))
-            go (refused m′ place′) f = cc
+        not-stated m place q = sym (ap said-of (numbers-right ∙ ap behind (fault-told (check-statement (so .Σ) a ws) d m place e q)))
 
-        pub stated : (S : Statement-so (so .Σ) a ws) (x : Said) → x ≡ said-of (stated-tests (so .rs) reg a ws (S .term)) → x ≡ said-of (say-call l reg a ws)
+        pub stated : (S : Statement-so (so .Σ) a ws) (x : Said) → x ≡ said-of (stated-own a ws (S .term) (view l (length reg) (used reg) (so .rs) (so .Σ))) → x ≡ said-of (say-call l reg a ws)
         stated S x g = g ∙ sym (ap said-of (numbers-right ∙ ap behind (S .is)))
 
 -- ---- what a say leaves

@@ -22,10 +22,10 @@ ghost use lib.ListN.{length};
 ghost use Rattle.logic.specs.Result.{ok};
 ghost use Rattle.logic.specs.Term.{Term};
 ghost use Rattle.words.specs.Place.{Is};
-ghost use Rattle.register.specs.Records.{Record, register-records};
-ghost use Rattle.register.specs.Calls.{say-call};
+ghost use Rattle.register.specs.Records.{Record, used, register-records};
+ghost use Rattle.register.specs.Calls.{Lent, view, stated-own, say-call};
 ghost use Rattle.calls.specs.Shared.{lent-of};
-ghost use Rattle.say.specs.Said.{said-of, Says-so, Stated, stated-tests};
+ghost use Rattle.say.specs.Said.{said-of, Says-so, Enterable};
 
 // What a say answers: it added a record, or the statement was held, or a test refused.
 pub enum Said {
@@ -36,8 +36,8 @@ pub enum Said {
 
 // Tests 14 and 16, and whether the statement is held, of a proposition that passed the others.
 fn addable(register: &[u32], principal: u32, proposition: &[u32]) -> Said
-    requires { ⌜ Stated (now register) (now proposition) ⌝ }
-    ensures { λ r. ⌜ ((rs : List Record) → (q : Term) → register-records (now (register .entry)) ≡ ok rs → Is (now (proposition .entry)) q → r ≡ said-of (stated-tests rs (now (register .entry)) principal (now (proposition .entry)) q)) ⌝ }
+    requires { ⌜ Enterable (now register) (now proposition) ⌝ }
+    ensures { λ r. ⌜ ((l : Lent) → (Σ : List Term) → (rs : List Record) → (q : Term) → register-records (now (register .entry)) ≡ ok rs → Is (now (proposition .entry)) q → r ≡ said-of (stated-own principal (now (proposition .entry)) q (view l (length (now (register .entry))) (used (now (register .entry))) rs Σ))) ⌝ }
 {
     let unheld = first_unheld(register, proposition);
     if let Unheld::At(place) = unheld {

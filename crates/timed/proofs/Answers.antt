@@ -6,7 +6,7 @@ use mathlib.Core.List.{List}
 use borrow.Author.Tests.{le-leb, lt-leb}
 use Rattle.logic.specs.Limits.{least-workspace, most-words, most-nesting}
 use Rattle.logic.specs.Refusals.{workspace-short, bad-signature}
-use Rattle.logic.specs.Result.{Result, ok, refused, _>>=_, _>>_, require}
+use Rattle.logic.specs.Result.{Result, ok, refused, _>>=_, _>>_, require, number-of}
 use Rattle.logic.specs.Term.{Term}
 use Rattle.logic.specs.SignatureList.{signature}
 use Rattle.logic.proofs.Basics.{clash}
@@ -18,7 +18,7 @@ use Rattle.signature.specs.Listing.{Read-as}
 use Rattle.signature.specs.declared.list.Listed.{Listed}
 use Rattle.signature.specs.declared.list.Listed.the-variants.{Bad}
 use Rattle.signature.proofs.Accepted.{signature-number, Constants-read}
-use Rattle.timed.specs.Timed.{tested, number-of}
+use Rattle.timed.specs.Timed.{tested}
 
 module _ (workspace : ℕ) (sig term : List ℕ) where
   abbrev rest : Result (List Term) → Result Term

@@ -4,7 +4,7 @@ use mathlib.Core.List.{List}
 use lib.Dec.{leb}
 use Rattle.logic.specs.Limits.{least-workspace, most-words, most-nesting}
 use Rattle.logic.specs.Refusals.{workspace-short}
-use Rattle.logic.specs.Result.{Result, ok, refused, _>>=_, _>>_, require}
+use Rattle.logic.specs.Result.{Result, _>>=_, _>>_, require}
 use Rattle.logic.specs.Term.{Term}
 use Rattle.logic.specs.SignatureList.{signature}
 use Rattle.typing.specs.Check.{typed-term}
@@ -14,7 +14,3 @@ tested workspace sig term = do
   require (leb least-workspace workspace) workspace-short 0
   Σ ← signature sig
   typed-term Σ most-words most-nesting term
-
-abbrev pub number-of : Result Term → ℕ
-number-of (ok A) = 0
-number-of (refused m p) = m

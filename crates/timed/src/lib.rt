@@ -10,7 +10,8 @@ use signature::list::read_signature;
 use typing::check::check_term;
 ghost use mathlib.Core.Path.{_≡_};
 ghost use lib.ListN.{length};
-ghost use Rattle.timed.specs.Timed.{tested, number-of};
+ghost use Rattle.logic.specs.Result.{number-of};
+ghost use Rattle.timed.specs.Timed.{tested};
 
 // Tests 1, 4 and 6 to 12: the number of the one that refuses, or 0.
 #[no_mangle]

@@ -1,4 +1,5 @@
 -- The check in a lent workspace is right.
+pub mod Verdicts
 pub mod Tails
 pub mod Uniform
 pub mod Derives

@@ -1,7 +1,7 @@
 // Reads, shifts and fills terms, at the edges too, and prints a line for each.
+use logic::word::APP;
+use logic::word::CONSTANT_0;
 use logic::word::PAYLOADS;
-use logic::word::TAG_APP;
-use logic::word::TAG_CONSTANT;
 use logic::word::TAG_KIND_P;
 use logic::word::TAG_LAM;
 use logic::word::TAG_PI;
@@ -20,15 +20,13 @@ ghost use Rattle.io.specs.Counts.{Counts};
 // P, C0, V0, and the words that have children.
 const P: u32 = TAG_PROP * PAYLOADS;
 
-const C0: u32 = TAG_CONSTANT * PAYLOADS;
+const C0: u32 = CONSTANT_0;
 
 const V0: u32 = VARIABLE_0;
 
 const PI: u32 = TAG_PI * PAYLOADS;
 
 const LAM: u32 = TAG_LAM * PAYLOADS;
-
-const APP: u32 = TAG_APP * PAYLOADS;
 
 const SIGN_0: u32 = TAG_SIGN * PAYLOADS;
 

@@ -11,7 +11,6 @@ use crate::lines::read_line;
 use crate::lines::request_line;
 use crate::lines::say_line;
 use crate::terms::A0;
-use crate::terms::APP;
 use crate::terms::C0;
 use crate::terms::C2;
 use crate::terms::C9;
@@ -31,6 +30,7 @@ use crate::terms::statement;
 use crate::terms::statement_254;
 use crate::terms::statement_255;
 use logic::limit::LEAST_WORKSPACE;
+use logic::word::APP;
 
 // "Rule r, a3 says App C2 s7": how each register here begins.
 fn begin(register: &mut [u32]) {

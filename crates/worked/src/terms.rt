@@ -1,17 +1,17 @@
 // The words of document 01's sample, each under the name that the document gives it.
+use logic::word::APP;
+use logic::word::CONSTANT_0;
+use logic::word::NAME_0;
 use logic::word::PAYLOADS;
-use logic::word::TAG_APP;
+use logic::word::SAYS;
 use logic::word::TAG_BIND;
-use logic::word::TAG_CONSTANT;
-use logic::word::TAG_NAME;
 use logic::word::TAG_PI;
 use logic::word::TAG_PRIN;
 use logic::word::TAG_PROP;
 use logic::word::TAG_RET;
-use logic::word::TAG_SAYS;
 use logic::word::TAG_SIGN;
 use logic::word::TAG_STRING;
-use logic::word::TAG_TEXT;
+use logic::word::TEXT_0;
 use logic::word::VARIABLE_0;
 
 pub(crate) const P: u32 = TAG_PROP * PAYLOADS;
@@ -26,7 +26,7 @@ const V1: u32 = VARIABLE_0 + 1;
 
 const V2: u32 = VARIABLE_0 + 2;
 
-pub(crate) const C0: u32 = TAG_CONSTANT * PAYLOADS;
+pub(crate) const C0: u32 = CONSTANT_0;
 
 pub(crate) const C2: u32 = C0 + 2;
 
@@ -34,15 +34,11 @@ const C3: u32 = C0 + 3;
 
 pub(crate) const C9: u32 = C0 + 9;
 
-const SAYS: u32 = TAG_SAYS * PAYLOADS;
-
 const PI: u32 = TAG_PI * PAYLOADS;
 
-pub(crate) const APP: u32 = TAG_APP * PAYLOADS;
+pub(crate) const S7: u32 = TEXT_0 + 7;
 
-pub(crate) const S7: u32 = TAG_TEXT * PAYLOADS + 7;
-
-pub(crate) const A0: u32 = TAG_NAME * PAYLOADS;
+pub(crate) const A0: u32 = NAME_0;
 
 const A3: u32 = A0 + 3;
 

@@ -14,7 +14,7 @@ permits-requires : tie.Need-permits-requires
 permits-requires c κs = let q = c .before .before .before .pre in (q .inside, q .operation, q .extract)
 
 returns : tie.Need-returns
-returns c = λ rs u t A g i T e. let s = c .before .before .before .before .before in another rs (s .args .register .now) (s .args .operation) (s .args .extract) u (s .args .proof .now) t A (c .before .permits .result) (c .before .permits .ensures A T e) (not-true _ (c .if1 .taken))
+returns c = λ l Σ rs u t A g i T e. let s = c .before .before .before .before .before in another l Σ rs (s .args .register .now) (s .args .operation) (s .args .extract) u (s .args .proof .now) t A (c .before .permits .result) (c .before .permits .ensures A T e) (not-true _ (c .if1 .taken))
 
 first-unheld-requires : tie.Need-first-unheld-requires
 first-unheld-requires c κs = let q = c .before .before .before .before .before .pre in (record { found = q .rs; reads = q .reads }, record { term = q .term; is = q .is })
@@ -23,7 +23,7 @@ enum-known-unheld : tie.Need-enum-known-unheld
 enum-known-unheld c = search needs
 
 returns-2 : tie.Need-returns-2
-returns-2 c = λ rs u t A g i T e. let s = c .before .before .before .before .before .before .before .before .before in unheld rs (s .args .register .now) (s .args .operation) (s .args .extract) u (s .args .proof .now) t A (c .before .before .before .before .before .permits .result) (c .before .before .before .before .before .permits .ensures A T e) (not-false _ (c .before .before .before .before .if1 .left)) (c .before .before .before .first-unheld .result) (c .before .before .before .first-unheld .ensures rs t g i) _ (c .before .unheld .given .1)
+returns-2 c = λ l Σ rs u t A g i T e. let s = c .before .before .before .before .before .before .before .before .before in unheld l Σ rs (s .args .register .now) (s .args .operation) (s .args .extract) u (s .args .proof .now) t A (c .before .before .before .before .before .permits .result) (c .before .before .before .before .before .permits .ensures A T e) (not-false _ (c .before .before .before .before .if1 .left)) (c .before .before .before .first-unheld .result) (c .before .before .before .first-unheld .ensures rs t g i) _ (c .before .unheld .given .1)
 
 enum-told : tie.Need-enum-told
 enum-told c = search needs
@@ -41,10 +41,10 @@ add-if2 : tie.Need-add-if2
 add-if2 c = search needs
 
 returns-3 : tie.Need-returns-3
-returns-3 c = λ rs u t A g i T e. let s = c .before .before .before .before .before .before .before .before .before .before in full rs (s .args .register .now) (s .args .operation) (s .args .extract) u (s .args .proof .now) t A (c .before .before .before .before .before .before .permits .result) (c .before .before .before .before .before .before .permits .ensures A T e) (not-false _ (c .before .before .before .before .before .if1 .left)) (c .before .before .before .before .first-unheld .result) (c .before .before .before .before .first-unheld .ensures rs t g i) (c .before .before .enum-told .given .1) (c .if2 .taken)
+returns-3 c = λ l Σ rs u t A g i T e. let s = c .before .before .before .before .before .before .before .before .before .before in full l Σ rs (s .args .register .now) (s .args .operation) (s .args .extract) u (s .args .proof .now) t A (c .before .before .before .before .before .before .permits .result) (c .before .before .before .before .before .before .permits .ensures A T e) (not-false _ (c .before .before .before .before .before .if1 .left)) (c .before .before .before .before .first-unheld .result) (c .before .before .before .before .first-unheld .ensures rs t g i) (c .before .before .enum-told .given .1) (c .if2 .taken)
 
 returns-4 : tie.Need-returns-4
-returns-4 c = λ rs u t A g i T e. let s = c .before .before .before .before .before .before .before .before .before .before in enough rs (s .args .register .now) (s .args .operation) (s .args .extract) u (s .args .proof .now) t A (c .before .before .before .before .before .before .permits .result) (c .before .before .before .before .before .before .permits .ensures A T e) (not-false _ (c .before .before .before .before .before .if1 .left)) (c .before .before .before .before .first-unheld .result) (c .before .before .before .before .first-unheld .ensures rs t g i) (c .before .before .enum-told .given .1) (from-start (s .args .register .now) rs g .within) (c .if2 .left)
+returns-4 c = λ l Σ rs u t A g i T e. let s = c .before .before .before .before .before .before .before .before .before .before in enough l Σ rs (s .args .register .now) (s .args .operation) (s .args .extract) u (s .args .proof .now) t A (c .before .before .before .before .before .before .permits .result) (c .before .before .before .before .before .before .permits .ensures A T e) (not-false _ (c .before .before .before .before .before .if1 .left)) (c .before .before .before .before .first-unheld .result) (c .before .before .before .before .first-unheld .ensures rs t g i) (c .before .before .enum-told .given .1) (from-start (s .args .register .now) rs g .within) (c .if2 .left)
 
 pub proves-spec : {M : Type 1} → statement M
 proves-spec =
