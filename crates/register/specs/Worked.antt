@@ -4,8 +4,6 @@ use mathlib.Core.Path.{_≡_}
 use mathlib.Core.Bool.{true}
 use mathlib.Core.List.{List, [], _∷_, _++_}
 use lib.ListN.{replicate}
-use Rattle.logic.specs.Limits.{least-workspace}
-use Rattle.logic.specs.Refusals.{register-full}
 use Rattle.logic.specs.Result.{ok, refused}
 use Rattle.logic.specs.Term.{Term, size, encode}
 use Rattle.logic.specs.Worked.{sample, consent, rule, p}
@@ -24,13 +22,13 @@ setting = record { sig = listed sample; n = 1 }
 
 -- a register of zeros, opened with the rule r
 abbrev pub opened : ℕ → List ℕ
-opened len = after-open (open-call (lent setting least-workspace) (replicate len 0) (0 ∷ size rule ∷ encode rule)) (replicate len 0)
+opened len = after-open (open-call (lent setting 12288) (replicate len 0) (0 ∷ size rule ∷ encode rule)) (replicate len 0)
 
 abbrev pub say-consent : Call
-say-consent = say least-workspace 3 (encode consent)
+say-consent = say 12288 3 (encode consent)
 
 abbrev pub request-extract : Call
-request-extract = request least-workspace 0 7 9 (encode p)
+request-extract = request 12288 0 7 9 (encode p)
 
 -- "Rule r, a3 says App C2 s7, request 0, 7, 9 with p: 24 words used, then 64. 64 words suffice; 63 give 16."
 pub record WorkedRegister : Type 0 where
@@ -38,4 +36,4 @@ pub record WorkedRegister : Type 0 where
   pub used-before : used (run setting (opened 64) (say-consent ∷ [])) ≡ 24
   pub used-after : used (run setting (opened 64) (say-consent ∷ request-extract ∷ [])) ≡ 64
   pub suffices : answers setting (opened 64) (say-consent ∷ request-extract ∷ []) ≡ said (ok true) ∷ requested (ok tt) ∷ []
-  pub too-short : answers setting (opened 63) (say-consent ∷ request-extract ∷ []) ≡ said (ok true) ∷ requested (refused register-full 0) ∷ []
+  pub too-short : answers setting (opened 63) (say-consent ∷ request-extract ∷ []) ≡ said (ok true) ∷ requested (refused 16 0) ∷ []
