@@ -14,8 +14,8 @@ use Rattle.logic.specs.Result.{ok}
 use Rattle.logic.specs.Reading.{Embedded}
 use Rattle.logic.specs.Check.{Passes, Stated}
 use Rattle.logic.specs.SignatureList.{Lists, permit, receipt-of}
-use Rattle.register.specs.Records.{Record, header, Unbroken, used, words-of, Held, statement, say-kind}
-use Rattle.register.specs.Calls.{Lent, permission, entry, with-rule, check-call, say-call, request-call, open-call}
+use Rattle.register.specs.Records.{Record, header, Unbroken, used, words-of, Held, statement, rule-kind, say-kind}
+use Rattle.register.specs.Calls.{Lent, permission, entry, check-call, say-call, request-call, open-call}
 
 -- what every call but read needs of what it is lent; Σ are the constants' types, and then a signature in the sense of Scope
 pub record Ready (l : Lent) (len : ℕ) (Σ : List Term) : Type 0 where
@@ -68,10 +68,19 @@ pub record Sayable (l : Lent) (reg : List ℕ) (a : ℕ) (ws : List ℕ) (added 
   pub signs : SignsHeld rs q
   pub adds : Adds rs reg a ws added
 
--- behind the rules rs, the words list rules that leave rs′: each passes as a Sign, and the Signs embedded in it are earlier rules
+-- behind the rules rs, a rule of principal a with the words q of t: it passes as a Sign, and the Signs embedded in it are earlier rules
+pub record Ruled (Σ : List Term) (rs : List Record) (a : ℕ) (q : List ℕ) (t : Term) : Type 0 where
+  pub principal : a < payloads
+  pub stated : Stated Σ a q t
+  pub signs : SignsHeld rs t
+
+-- behind the rules rs, the words list rules that leave rs′: "A repeated rule .. adds no record and succeeds"
 pub data Opens (Σ : List Term) : List Record → List ℕ → List Record → Type 0 where
   no-rule : {rs : List Record} → Opens Σ rs [] rs
-  one-rule : {rs rs′ : List Record} {a : ℕ} {q ws : List ℕ} {t : Term} → a < payloads → Stated Σ a q t → SignsHeld rs t → Opens Σ (with-rule rs a q) ws rs′ → Opens Σ rs (a ∷ length q ∷ (q ++ ws)) rs′
+  new-rule : {rs rs′ : List Record} {a : ℕ} {q ws : List ℕ} {t : Term} → Ruled Σ rs a q t → (Held rs a q → ⊥) →
+      Opens Σ (rs ++ (statement rule-kind a q ∷ [])) ws rs′ → Opens Σ rs (a ∷ length q ∷ (q ++ ws)) rs′
+  repeated-rule : {rs rs′ : List Record} {a : ℕ} {q ws : List ℕ} {t : Term} → Ruled Σ rs a q t → Held rs a q →
+      Opens Σ rs ws rs′ → Opens Σ rs (a ∷ length q ∷ (q ++ ws)) rs′
 
 -- an open succeeds with the records rs
 pub record Openable (l : Lent) (reg rules : List ℕ) (rs : List Record) : Type 0 where
