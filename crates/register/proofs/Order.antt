@@ -1,0 +1,62 @@
+-- The order of the calls' tests, by computation.
+use mathlib.Core.Path.{refl}
+use native.Mathlib.Decide.{ℕ-discrete}
+use Rattle.logic.specs.Term.{size, encode}
+use Rattle.logic.specs.Move.{shift, fillAt, occurs}
+use Rattle.logic.specs.Reading.{read, too-deep, first-unheld}
+use Rattle.logic.specs.Infer.{infer, same-term, conclusion}
+use Rattle.logic.specs.SignatureList.{constants, operations}
+use Rattle.register.specs.Records.{records, words-of, held, same-words}
+use Rattle.register.specs.Calls.{opening}
+use Rattle.register.specs.Worked.{listed}
+use Rattle.register.specs.Order.{CallOrder}
+
+pub call-order : CallOrder
+unfolding infer same-term conclusion read too-deep first-unheld shift fillAt occurs size encode ℕ-discrete constants operations records words-of held same-words opening listed
+call-order = record {
+  check-1 = refl;
+  check-2 = refl;
+  check-3 = refl;
+  check-4 = refl;
+  check-5 = refl;
+  check-6 = refl;
+  check-9 = refl;
+  check-14 = refl;
+  request-1 = refl;
+  request-2 = refl;
+  request-3 = refl;
+  request-4 = refl;
+  request-5-i = refl;
+  request-5-v = refl;
+  request-5-u = refl;
+  request-6 = refl;
+  request-9 = refl;
+  request-13 = refl;
+  request-14 = refl;
+  say-1 = refl;
+  say-2 = refl;
+  say-3 = refl;
+  say-4 = refl;
+  say-5 = refl;
+  say-5-principal = refl;
+  say-15 = refl;
+  say-6 = refl;
+  say-9 = refl;
+  say-14 = refl;
+  say-16 = refl;
+  open-1 = refl;
+  open-2 = refl;
+  open-4 = refl;
+  open-5 = refl;
+  open-rule-5 = refl;
+  open-rule-6 = refl;
+  open-rule-6-long = refl;
+  open-rule-7 = refl;
+  open-rule-7-cut = refl;
+  open-rule-9 = refl;
+  open-rule-14 = refl;
+  open-16 = refl;
+  read-2 = refl;
+  read-3 = refl;
+  read-17 = refl;
+}

@@ -1,0 +1,87 @@
+-- The order of the calls' tests, by literals: from line to line one fault is mended, and the first that is left in document 01's table answers. proofs/Order computes them, so that they rest on no other proof.
+use Prim.Native.Nat.{ℕ}
+use mathlib.Core.Path.{_≡_}
+use mathlib.Core.List.{List, [], _∷_, _++_}
+use Rattle.logic.specs.Result.{refused}
+use Rattle.logic.specs.Term.{Term, var, sign, Const, Name, Says, Pi, App, size, encode}
+use Rattle.logic.specs.Worked.{sample, consent, rule, p}
+use Rattle.register.specs.Calls.{Lent, check-call, request-call, say-call, open-call, read-call}
+use Rattle.register.specs.Worked.{listed}
+
+-- what is lent beside a register: a workspace, a signature list, n
+abbrev pub with-lent : ℕ → List ℕ → ℕ → Lent
+with-lent workspace sig n = record { sig = sig; n = n; workspace = workspace }
+
+-- document 01's sample, with a workspace that suffices
+abbrev pub lends : Lent
+lends = with-lent 12288 (listed sample) 1
+
+-- a constant of no words; a register with a used count past its end; one of two words, with no records
+abbrev pub no-constant : List ℕ
+no-constant = 0 ∷ []
+
+abbrev pub broken : List ℕ
+broken = 9 ∷ 0 ∷ []
+
+abbrev pub empty : List ℕ
+empty = 2 ∷ 0 ∷ []
+
+-- a proposition in which Sign3 App C2 s7 stands at word 14
+abbrev pub embeds : Term
+embeds = Pi (Pi (Says (Name 3) consent) consent) (App (Const 3) (App (var 0) (sign 3 consent)))
+
+-- a rule as words of a rule list
+abbrev pub rule-words : ℕ → Term → List ℕ
+rule-words a q = a ∷ size q ∷ encode q
+
+pub record CallOrder : Type 0 where
+  -- check: 1, 2, 3, 4, 5, 6, 9 to 12, 14
+  pub check-1 : check-call (with-lent 12287 no-constant 0) [] [] ≡ refused 1 0
+  pub check-2 : check-call (with-lent 12288 no-constant 0) [] [] ≡ refused 2 0
+  pub check-3 : check-call (with-lent 12288 no-constant 0) broken [] ≡ refused 3 0
+  pub check-4 : check-call (with-lent 12288 no-constant 0) empty [] ≡ refused 4 0
+  pub check-5 : check-call (with-lent 12288 (listed sample) 0) empty [] ≡ refused 5 0
+  pub check-6 : check-call lends empty [] ≡ refused 6 0
+  pub check-9 : check-call lends empty (encode (sign 3 (var 0))) ≡ refused 9 1
+  pub check-14 : check-call lends empty (encode (sign 3 consent)) ≡ refused 14 0
+  -- request: the same, i, v and u before the proof, and 13, 14, 16
+  pub request-1 : request-call (with-lent 12287 no-constant 0) [] 1 16777216 16777216 [] ≡ refused 1 0
+  pub request-2 : request-call (with-lent 12288 no-constant 0) [] 1 16777216 16777216 [] ≡ refused 2 0
+  pub request-3 : request-call (with-lent 12288 no-constant 0) broken 1 16777216 16777216 [] ≡ refused 3 0
+  pub request-4 : request-call (with-lent 12288 no-constant 0) empty 1 16777216 16777216 [] ≡ refused 4 0
+  pub request-5-i : request-call lends empty 1 7 9 [] ≡ refused 5 0
+  pub request-5-v : request-call lends empty 0 16777216 9 [] ≡ refused 5 0
+  pub request-5-u : request-call lends empty 0 7 16777216 [] ≡ refused 5 0
+  pub request-6 : request-call lends empty 0 7 9 [] ≡ refused 6 0
+  pub request-9 : request-call lends empty 0 7 9 (encode (sign 3 (var 0))) ≡ refused 9 1
+  pub request-13 : request-call lends empty 0 7 9 (encode (sign 3 consent)) ≡ refused 13 0
+  pub request-14 : request-call lends empty 0 7 9 (encode p) ≡ refused 14 1
+  -- say: 5 for n before 15, 15 before the proposition, 14 before 16
+  pub say-1 : say-call (with-lent 12287 no-constant 0) [] 0 [] ≡ refused 1 0
+  pub say-2 : say-call (with-lent 12288 no-constant 0) [] 0 [] ≡ refused 2 0
+  pub say-3 : say-call (with-lent 12288 no-constant 0) broken 0 [] ≡ refused 3 0
+  pub say-4 : say-call (with-lent 12288 no-constant 0) empty 0 [] ≡ refused 4 0
+  pub say-5 : say-call (with-lent 12288 (listed sample) 0) empty 0 [] ≡ refused 5 0
+  pub say-5-principal : say-call lends empty 16777216 [] ≡ refused 5 0
+  pub say-15 : say-call lends empty 0 [] ≡ refused 15 0
+  pub say-6 : say-call lends empty 4 [] ≡ refused 6 0
+  pub say-9 : say-call lends empty 4 (encode (sign 3 (var 0))) ≡ refused 9 1
+  pub say-14 : say-call lends empty 4 (encode embeds) ≡ refused 14 14
+  pub say-16 : say-call lends empty 3 (encode consent) ≡ refused 16 0
+  -- open: no 3; then rules in turn, each at its principal word; 16 last
+  pub open-1 : open-call (with-lent 12287 no-constant 0) [] (16777216 ∷ []) ≡ refused 1 0
+  pub open-2 : open-call (with-lent 12288 no-constant 0) [] (16777216 ∷ []) ≡ refused 2 0
+  pub open-4 : open-call (with-lent 12288 no-constant 0) broken (16777216 ∷ []) ≡ refused 4 0
+  pub open-5 : open-call (with-lent 12288 (listed sample) 0) broken (rule-words 0 rule ++ (16777216 ∷ [])) ≡ refused 5 0
+  pub open-rule-5 : open-call lends broken (rule-words 0 rule ++ (16777216 ∷ 0 ∷ [])) ≡ refused 5 15
+  pub open-rule-6 : open-call lends broken (rule-words 0 rule ++ (0 ∷ 0 ∷ [])) ≡ refused 6 15
+  pub open-rule-6-long : open-call lends broken (rule-words 0 rule ++ (0 ∷ 2048 ∷ [])) ≡ refused 6 15
+  pub open-rule-7 : open-call lends broken (rule-words 0 rule ++ (0 ∷ [])) ≡ refused 7 15
+  pub open-rule-7-cut : open-call lends broken (rule-words 0 rule ++ (0 ∷ 2047 ∷ [])) ≡ refused 7 15
+  pub open-rule-9 : open-call lends broken (rule-words 0 rule ++ rule-words 0 (sign 3 (var 0))) ≡ refused 9 15
+  pub open-rule-14 : open-call lends broken (rule-words 0 rule ++ rule-words 4 embeds ++ (16777216 ∷ [])) ≡ refused 14 15
+  pub open-16 : open-call lends broken (rule-words 0 rule) ≡ refused 16 0
+  -- read: 2, 3, 17
+  pub read-2 : read-call [] 0 ≡ refused 2 0
+  pub read-3 : read-call broken 0 ≡ refused 3 0
+  pub read-17 : read-call empty 0 ≡ refused 17 0
