@@ -1,4 +1,5 @@
--- The order of tests 6 to 12, by literals: in each line two tests fail, and the one that document 01 puts first answers. proofs/Order computes them, so that they rest on no other proof.
+-- The order of tests 6 to 12, by literals: in each line two tests fail, and the one that document 01 puts first
+-- answers. proofs/Order computes them, so that they rest on no other proof.
 use Prim.Native.Nat.{ℕ, zero, suc}
 use mathlib.Core.Path.{_≡_}
 use mathlib.Core.List.{List, [], _∷_, _++_}

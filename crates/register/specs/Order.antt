@@ -1,4 +1,5 @@
--- The order of the calls' tests, by literals: from line to line one fault is mended, and the first that is left in document 01's table answers. proofs/Order computes them, so that they rest on no other proof.
+-- The order of the calls' tests, by literals: from line to line one fault is mended, and the first that is left in
+-- document 01's table answers. proofs/Order computes them, so that they rest on no other proof.
 use Prim.Native.Nat.{ℕ}
 use mathlib.Core.Path.{_≡_}
 use mathlib.Core.List.{List, [], _∷_, _++_}
