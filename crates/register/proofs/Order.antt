@@ -6,13 +6,14 @@ use Rattle.logic.specs.Move.{shift, fillAt, occurs}
 use Rattle.logic.specs.Reading.{read, too-deep, first-unheld}
 use Rattle.logic.specs.Infer.{infer, same-term, conclusion}
 use Rattle.logic.specs.SignatureList.{constants, operations}
+use Rattle.logic.specs.Order.{within-signs}
 use Rattle.register.specs.Records.{records, words-of, held, same-words}
 use Rattle.register.specs.Calls.{opening}
 use Rattle.register.specs.Worked.{listed}
 use Rattle.register.specs.Order.{CallOrder}
 
 pub call-order : CallOrder
-unfolding infer same-term conclusion read too-deep first-unheld shift fillAt occurs size encode ℕ-discrete constants operations records words-of held same-words opening listed
+unfolding infer same-term conclusion read too-deep first-unheld shift fillAt occurs size encode ℕ-discrete constants operations records words-of held same-words opening listed within-signs
 call-order = record {
   check-1 = refl;
   check-2 = refl;
@@ -20,6 +21,9 @@ call-order = record {
   check-4 = refl;
   check-5 = refl;
   check-6 = refl;
+  check-6-long = refl;
+  check-7 = refl;
+  check-8 = refl;
   check-9 = refl;
   check-14 = refl;
   request-1 = refl;
@@ -41,6 +45,9 @@ call-order = record {
   say-5-principal = refl;
   say-15 = refl;
   say-6 = refl;
+  say-6-long = refl;
+  say-7 = refl;
+  say-8 = refl;
   say-9 = refl;
   say-14 = refl;
   say-16 = refl;

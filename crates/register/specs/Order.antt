@@ -3,9 +3,11 @@
 use Prim.Native.Nat.{ℕ}
 use mathlib.Core.Path.{_≡_}
 use mathlib.Core.List.{List, [], _∷_, _++_}
+use lib.ListN.{replicate}
 use Rattle.logic.specs.Result.{refused}
 use Rattle.logic.specs.Term.{Term, var, sign, Const, Name, Says, Pi, App, size, encode}
 use Rattle.logic.specs.Worked.{sample, consent, rule, p}
+use Rattle.logic.specs.Order.{within-signs}
 use Rattle.register.specs.Calls.{Lent, check-call, request-call, say-call, open-call, read-call}
 use Rattle.register.specs.Worked.{listed}
 
@@ -36,13 +38,16 @@ abbrev pub rule-words : ℕ → Term → List ℕ
 rule-words a q = a ∷ size q ∷ encode q
 
 pub record CallOrder : Type 0 where
-  -- check: 1, 2, 3, 4, 5, 6, 9 to 12, 14
+  -- check: 1 to 8, then 9 to 12 as met, then 14
   pub check-1 : check-call (with-lent 12287 no-constant 0) [] [] ≡ refused 1 0
   pub check-2 : check-call (with-lent 12288 no-constant 0) [] [] ≡ refused 2 0
   pub check-3 : check-call (with-lent 12288 no-constant 0) broken [] ≡ refused 3 0
   pub check-4 : check-call (with-lent 12288 no-constant 0) empty [] ≡ refused 4 0
   pub check-5 : check-call (with-lent 12288 (listed sample) 0) empty [] ≡ refused 5 0
   pub check-6 : check-call lends empty [] ≡ refused 6 0
+  pub check-6-long : check-call lends empty (replicate 2049 0) ≡ refused 6 0
+  pub check-7 : check-call lends empty (replicate 2048 0) ≡ refused 7 0
+  pub check-8 : check-call lends empty (encode (within-signs 32 (var 0))) ≡ refused 8 32
   pub check-9 : check-call lends empty (encode (sign 3 (var 0))) ≡ refused 9 1
   pub check-14 : check-call lends empty (encode (sign 3 consent)) ≡ refused 14 0
   -- request: the same, i, v and u before the proof, and 13, 14, 16
@@ -57,7 +62,7 @@ pub record CallOrder : Type 0 where
   pub request-9 : request-call lends empty 0 7 9 (encode (sign 3 (var 0))) ≡ refused 9 1
   pub request-13 : request-call lends empty 0 7 9 (encode (sign 3 consent)) ≡ refused 13 0
   pub request-14 : request-call lends empty 0 7 9 (encode p) ≡ refused 14 1
-  -- say: 5 for n before 15, 15 before the proposition, 14 before 16
+  -- say: 5 for n before 15, 15 before the proposition, whose limits are one less, 14 before 16
   pub say-1 : say-call (with-lent 12287 no-constant 0) [] 0 [] ≡ refused 1 0
   pub say-2 : say-call (with-lent 12288 no-constant 0) [] 0 [] ≡ refused 2 0
   pub say-3 : say-call (with-lent 12288 no-constant 0) broken 0 [] ≡ refused 3 0
@@ -66,6 +71,9 @@ pub record CallOrder : Type 0 where
   pub say-5-principal : say-call lends empty 16777216 [] ≡ refused 5 0
   pub say-15 : say-call lends empty 0 [] ≡ refused 15 0
   pub say-6 : say-call lends empty 4 [] ≡ refused 6 0
+  pub say-6-long : say-call lends empty 4 (replicate 2048 0) ≡ refused 6 0
+  pub say-7 : say-call lends empty 4 (replicate 2047 0) ≡ refused 7 0
+  pub say-8 : say-call lends empty 4 (encode (within-signs 31 (var 0))) ≡ refused 8 31
   pub say-9 : say-call lends empty 4 (encode (sign 3 (var 0))) ≡ refused 9 1
   pub say-14 : say-call lends empty 4 (encode embeds) ≡ refused 14 14
   pub say-16 : say-call lends empty 3 (encode consent) ≡ refused 16 0
