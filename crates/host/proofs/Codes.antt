@@ -2,7 +2,7 @@
 use Prim.Native.Nat.{ℕ, _+_, _*_, _≤_, _<_}
 use native.Mathlib.Omega.{arith}
 use mathlib.Core.Path.{_≡_, refl, sym, ap, _∙_}
-use mathlib.Core.Bool.{Bool, true, false}
+use mathlib.Core.Bool.{Bool}
 use mathlib.Core.List.{List}
 use lib.ListN.{length}
 use lib.Seq.{length-take-le}
@@ -15,10 +15,10 @@ use Rattle.rules.specs.declared.derivation.Derivation.the-variants.{Typed, Refu
 use Rattle.rules.specs.declared.derivation.Verdict.{Verdict}
 use Rattle.rules.specs.declared.derivation.Verdict.the-variants.{Passed, Fault}
 use Rattle.typing.specs.Check.{Judged, verdict-of}
-use Rattle.register.specs.Calls.{Lent, open-call, say-call, after-say, request-call, check-call}
+use Rattle.register.specs.Calls.{Lent, open-call, say-call, request-call, check-call}
 use Rattle.register.proofs.Bounds.{Number, open-bound, say-bound, request-bound, check-bound}
 use Rattle.calls.proofs.Checks.{words-within, handed-type, handed-nothing}
-use Rattle.say.specs.Said.{said-of, Says-so}
+use Rattle.say.specs.Said.{said-answer, Says-so}
 use Rattle.say.specs.declared.Said.{Said}
 use Rattle.say.specs.declared.Said.the-variants.{Added, Held, Fault as Not-said}
 use Rattle.host.specs.Answers.{number-unit, place-limit, code-of, added-of, Said-to, Typed-to}
@@ -69,29 +69,17 @@ request-fits l reg i v u proof m p h e = let (n, q) = request-bound l reg i v u 
 -- ---- say
 
 module _ (o : Result Bool) (old : List ℕ) (a : ℕ) (q new : List ℕ) (r : Said) (S : Says-so o old a q new r) where
+  told : {x : Said} → r ≡ x → said-answer x ≡ o
+  told f = sym (ap said-answer f) ∙ S .answer
+
   pub said-added : r ≡ Added → Said-to o old a q new 1 0
-  said-added f = go o (S .answer) (S .register)
-    where
-      go : (x : Result Bool) → r ≡ said-of x → new ≡ after-say x old a q → Said-to x old a q new 1 0
-      go (ok true) e g = record { answer = refl; register = g; added-is = refl }
-      go (ok false) e g = absurd (clash (cc))
-      go (refused m p) e g = absurd (clash (cc))
+  said-added f = let e = told f in record { answer = ap code-of e; register = S .register; added-is = ap added-of e }
 
   pub said-held : r ≡ Held → Said-to o old a q new 0 0
-  said-held f = go o (S .answer) (S .register)
-    where
-      go : (x : Result Bool) → r ≡ said-of x → new ≡ after-say x old a q → Said-to x old a q new 0 0
-      go (ok true) e g = absurd (clash (cc))
-      go (ok false) e g = record { answer = refl; register = g; added-is = refl }
-      go (refused m p) e g = absurd (clash (cc))
+  said-held f = let e = told f in record { answer = ap code-of e; register = S .register; added-is = ap added-of e }
 
   pub unsaid-is : (m p : ℕ) → r ≡ Not-said m p → o ≡ refused m p
-  unsaid-is m p f = go o (S .answer)
-    where
-      go : (x : Result Bool) → r ≡ said-of x → x ≡ refused m p
-      go (ok true) e = absurd (clash (cc))
-      go (ok false) e = absurd (clash (cc))
-      go (refused m′ p′) e = cc
+  unsaid-is m p f = sym (told f)
 
   pub said-nothing : (m p : ℕ) → r ≡ Not-said m p → (code : ℕ) → code ≡ m * number-unit + p → Said-to o old a q new 0 code
   said-nothing m p f code c = let e = unsaid-is m p f in record { answer = refused-code o m p code e c; register = S .register; added-is = sym (ap added-of e) }

@@ -13,7 +13,6 @@ use Rattle.logic.specs.Refusals.{bad-number, another-proposition, not-held, reg
 use Rattle.logic.specs.Result.{Result, ok, _>>=_, _>>_, require}
 use Rattle.logic.specs.Term.{Term, encode, size}
 use Rattle.logic.specs.Infer.{same}
-use Rattle.logic.specs.Reading.{first-unheld}
 use Rattle.logic.specs.Check.{check-term, Checked}
 use Rattle.logic.proofs.Results.{both-true, true-both}
 use Rattle.logic.proofs.Words.{encode-size, InRange}
@@ -27,7 +26,7 @@ use Rattle.rules.specs.declared.derivation.Verdict.the-variants.{Passed, Fault}
 use Rattle.typing.specs.Check.{typed-term, Judged, verdict-of}
 use Rattle.typing.proofs.Checks.{and-false}
 use Rattle.typing.proofs.Verdicts.{fault-told, passed-told}
-use Rattle.records.specs.Answers.{Room, unheldOf}
+use Rattle.records.specs.Answers.{Room, unheld-answer}
 use Rattle.records.specs.declared.search.Unheld.{Unheld}
 use Rattle.records.specs.declared.search.Unheld.the-variants.{Nowhere, At}
 use Rattle.records.proofs.Adds.{entry-length, room}
@@ -39,7 +38,7 @@ use Rattle.register.proofs.Words.{unbroken-right}
 use Rattle.calls.specs.Shared.{prepared, Prepared-as}
 use Rattle.calls.specs.declared.shared.Ready.{Ready}
 use Rattle.calls.specs.declared.shared.Ready.the-variants.{Fault as Unready}
-use Rattle.calls.proofs.Checks.{Passed-so, not-prepared, typed-so, Typed-so, typed-refused, Type-found, type-found, type-refused, unheld-found, all-held, words-within}
+use Rattle.calls.proofs.Checks.{Passed-so, not-prepared, typed-so, Typed-so, typed-refused, Type-found, type-found, type-refused, words-within}
 use Rattle.request.specs.Requested.{Requested}
 
 -- ---- test 5 of the call's own numbers
@@ -80,16 +79,16 @@ module _ (l : Lent) (Σ : List Term) (rs : List Record) (reg : List ℕ) (i v u 
   pub another : wanted ≡ false → Fault another-proposition 0 ≡ verdict-of (tests)
   another q = sym (ap (λ (b : Bool). verdict-of (in-turn b (signs-held (held rs) t) entry-fits)) (sym right ∙ q))
 
-  module _ (q : wanted ≡ true) (x : Unheld) (e : x ≡ unheldOf (first-unheld (λ a c. held rs a (encode c)) 0 t)) where
+  module _ (q : wanted ≡ true) (x : Unheld) (e : unheld-answer x ≡ signs-held (held rs) t) where
     wanted-proved : tests ≡ (signs-held (held rs) t >> require entry-fits register-full 0)
     wanted-proved = ap (λ (b : Bool). in-turn b (signs-held (held rs) t) entry-fits) (sym right ∙ q)
 
     pub unheld : (place : ℕ) → x ≡ At place → Fault not-held place ≡ verdict-of (tests)
-    unheld place f = sym (ap verdict-of (wanted-proved ∙ ap (λ s. s >> require entry-fits register-full 0) (unheld-found (held rs) t x place e f)))
+    unheld place f = sym (ap verdict-of (wanted-proved ∙ ap (λ s. s >> require entry-fits register-full 0) (sym e ∙ ap unheld-answer f)))
 
     module _ (f : x ≡ Nowhere) where
       signs-found : tests ≡ require entry-fits register-full 0
-      signs-found = wanted-proved ∙ ap (λ s. s >> require entry-fits register-full 0) (all-held (held rs) t x e f)
+      signs-found = wanted-proved ∙ ap (λ s. s >> require entry-fits register-full 0) (sym e ∙ ap unheld-answer f)
 
       pub full : length reg - used reg < length p + entry-extra → Fault register-full 0 ≡ verdict-of (tests)
       full h = sym (ap verdict-of (signs-found ∙ ap (λ (b : Bool). require b register-full 0) (lt-leb (used reg + length (words-of (entry i v u p))) (length reg) (omega (arith, entry-length i v u p)))))
