@@ -4,6 +4,7 @@ use native.Mathlib.Omega.{arith}
 use mathlib.Core.Path.{_≡_, refl, sym, ap, ap₂, subst, _∙_}
 use mathlib.Core.Bool.{Bool, true, false}
 use mathlib.Core.List.{List, [], _∷_}
+use mathlib.Core.Option.{Option, some, none}
 use lib.ListN.{length, take, drop, set, getD, length-set}
 use lib.Dec.{leb}
 use lib.IntN.{ℤ, pos}
@@ -12,10 +13,11 @@ use Rattle.logic.specs.Tags.{tag-variable}
 use Rattle.logic.specs.Result.{pick}
 use Rattle.logic.specs.Term.{Term, atom, var, sign, node, payload-of, word, opWord, encode, size, binds, under}
 use Rattle.logic.specs.Move.{shift, raise, fillAt}
+use Rattle.logic.proofs.Basics.{clash}
 use Rattle.logic.proofs.Words.{encode-size}
 use Rattle.words.specs.Place.{At, Is, written}
 use Rattle.moves.specs.Shift.{Shifted}
-use Rattle.moves.specs.Fill.{filledAt, FilledTo}
+use Rattle.moves.specs.Fill.{filled-answer, FilledTo}
 use Rattle.moves.specs.declared.fill.Filled.{Filled}
 use Rattle.moves.specs.declared.fill.Filled.the-variants.{Done, Over}
 use Rattle.logic.specs.Kind.{kind-atom, kind-variable, kind-sign, kind-node}
@@ -33,7 +35,7 @@ Fills ws at c fs old to new r = (t e : Term) → At ws at t → Is fs e → Fill
 pub done : (t u : Term) (at : ℕ) (old : List ℕ) (to : ℕ) (new : List ℕ) (next end : ℕ) → next ≡ at + size t → end ≡ to + size u → end ≤ length old → new ≡ written old to (encode u) → FilledTo t u at old to new (Done next end)
 done t u at old to new next end n e l w =
     let h : to + size u ≤ length old = omega arith in
-    record { answer = simp (le-leb (to + size u) (length old) h) (ap₂ Done n e); words = λ x. w }
+    record { answer = simp (le-leb (to + size u) (length old) h) (ap₂ (λ (x y : ℕ). some (x, y)) n e); words = λ x. w }
 
 pub over : (t u : Term) (at : ℕ) (old : List ℕ) (to : ℕ) (new : List ℕ) → length old < to + size u → FilledTo t u at old to new Over
 over t u at old to new l = record { answer = simp (lt-leb (to + size u) (length old) l); words = λ x. absurd (omega arith) }
@@ -43,25 +45,31 @@ pub record Was (t u : Term) (at : ℕ) (len to next end : ℕ) : Type 0 where
   pub end-is : end ≡ to + size u
   pub fits : end ≤ len
 
-pub done-is : (t u : Term) (at to len next end : ℕ) (r : Filled) → r ≡ filledAt at to len t u → r ≡ Done next end → Was t u at len to next end
-done-is t u at to len next end r e q = go (leb (to + size u) len) refl (sym q ∙ e)
-  where
-    go : (b : Bool) → leb (to + size u) len ≡ b → Done next end ≡ pick b (Done (at + size t) (to + size u)) Over → Was t u at len to next end
-    go true l p =
-        let h : to + size u ≤ len = leb-true (to + size u) len l in
-        let x : end ≡ to + size u = cc in
-        record { next-is = cc; end-is = x; fits = omega arith }
-    go false l p = let z : _≡_ {A = ℕ} 0 1 = cc in absurd (omega arith)
+-- the values of an answer, where there is room up to the end
+abbrev within : Bool → (next end : ℕ) → Option (ℕ × ℕ)
+within b next end = pick b (some (next, end)) none
 
-pub over-is : (t u : Term) (at to len : ℕ) (r : Filled) → r ≡ filledAt at to len t u → r ≡ Over → len < to + size u
-over-is t u at to len r e q = go (leb (to + size u) len) refl (sym q ∙ e)
-  where
-    go : (b : Bool) → leb (to + size u) len ≡ b → Over ≡ pick b (Done (at + size t) (to + size u)) Over → len < to + size u
-    go true l p = let z : _≡_ {A = ℕ} 0 1 = cc in absurd (omega arith)
-    go false l p = leb-false (to + size u) len l
+module _ (t u : Term) (at to len : ℕ) {r : Filled} (e : filled-answer r ≡ within (leb (to + size u) len) (at + size t) (to + size u)) where
+  pub done-is : (next end : ℕ) → r ≡ Done next end → Was t u at len to next end
+  done-is next end q = go (leb (to + size u) len) refl (ap filled-answer (sym q) ∙ e)
+    where
+      go : (b : Bool) → leb (to + size u) len ≡ b → filled-answer (Done next end) ≡ within b (at + size t) (to + size u) → Was t u at len to next end
+      go true l p =
+          let h : to + size u ≤ len = leb-true (to + size u) len l in
+          let i : _≡_ {A = ℕ × ℕ} (next, end) (at + size t, to + size u) = cc in
+          let x : end ≡ to + size u = ap (λ (y : ℕ × ℕ). y .1) i in
+          record { next-is = ap (λ (y : ℕ × ℕ). y .0) i; end-is = x; fits = omega arith }
+      go false l p = absurd (clash (cc))
 
-same-answer : (n n′ x x′ len len′ : ℕ) → n ≡ n′ → x ≡ x′ → len ≡ len′ → pick (leb x len) (Done n x) Over ≡ pick (leb x′ len′) (Done n′ x′) Over
-same-answer n n′ x x′ len len′ p q r = ap (λ (y : ℕ). pick (leb x len) (Done y x) Over) p ∙ ap₂ (λ (y l : ℕ). pick (leb y l) (Done n′ y) Over) q r
+  pub over-is : r ≡ Over → len < to + size u
+  over-is q = go (leb (to + size u) len) refl (ap filled-answer (sym q) ∙ e)
+    where
+      go : (b : Bool) → leb (to + size u) len ≡ b → filled-answer Over ≡ within b (at + size t) (to + size u) → len < to + size u
+      go true l p = absurd (clash (cc))
+      go false l p = leb-false (to + size u) len l
+
+same-answer : (n n′ x x′ len len′ : ℕ) → n ≡ n′ → x ≡ x′ → len ≡ len′ → within (leb x len) n x ≡ within (leb x′ len′) n′ x′
+same-answer n n′ x x′ len len′ p q r = ap (λ (y : ℕ). within (leb x len) y x) p ∙ ap₂ (λ (y l : ℕ). within (leb y l) n′ y) q r
 
 -- ---- a variable
 
@@ -172,7 +180,7 @@ node-over ws fs at c old mid to k r n0 n1 n2 f v (var n) e h i p = absurd (n1 p)
 node-over ws fs at c old mid to k r n0 n1 n2 f v (sign n q) e h i p = absurd (n2 p)
 node-over ws fs at c old mid to k r n0 n1 n2 f v (node o a b) e h i p =
     let l : length (set old to (getD ws at 0)) ≡ length old = length-set old to (getD ws at 0) in
-    let g = over-is a (fillAt c e a) (at + 1) (to + 1) _ r (f a e (at-left h) i .answer) v in
+    let g = over-is a (fillAt c e a) (at + 1) (to + 1) _ (f a e (at-left h) i .answer) v in
     subst (FilledTo (node o a b) (fillAt c e (node o a b)) at old to mid) (sym v) (over (node o a b) (fillAt c e (node o a b)) at old to mid (omega arith))
 
 pub node-filled : (ws fs : List ℕ) (at c : ℕ) (old mid new : List ℕ) (to k next end : ℕ) (r last : Filled) → (k ≡ kind-atom → ⊥) → (k ≡ kind-variable → ⊥) → (k ≡ kind-sign → ⊥) → to < length old
@@ -187,7 +195,7 @@ node-filled ws fs at c old mid new to k next end r last n0 n1 n2 l f v g (node o
     let d : c + (k - kind-node) ≡ under (binds o) suc c = deeper (binds o) k c p in
     let s : length (set old to (getD ws at 0)) ≡ length old = length-set old to (getD ws at 0) in
     let fa = f a e (at-left h) i in
-    let was = done-is a (fillAt c e a) (at + 1) (to + 1) _ next end r (fa .answer) v in
+    let was = done-is a (fillAt c e a) (at + 1) (to + 1) _ (fa .answer) next end v in
     let la : length (encode (fillAt c e a)) ≡ size (fillAt c e a) = encode-size (fillAt c e a) in
     let en : end ≡ to + 1 + length (encode (fillAt c e a)) = omega arith in
     let mw = fa .words (omega arith) in

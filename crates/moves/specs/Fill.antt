@@ -2,6 +2,7 @@
 use Prim.Native.Nat.{ℕ, _+_, _≤_}
 use mathlib.Core.Path.{_≡_}
 use mathlib.Core.List.{List}
+use mathlib.Core.Option.{Option, some, none}
 use lib.ListN.{length}
 use lib.Dec.{leb}
 use Rattle.logic.specs.Limits.{payloads}
@@ -20,10 +21,12 @@ pub record Fillable (ws : List ℕ) (at c : ℕ) (fs : List ℕ) : Type 0 where
   pub lends : Is fs filler
   pub short : length fs ≤ payloads
 
--- of t, which stands at a place, u is to be written from the place to on into a list of len words
-abbrev pub filledAt : ℕ → ℕ → ℕ → Term → Term → Filled
-filledAt at to len t u = pick (leb (to + size u) len) (Done (at + size t) (to + size u)) Over
+-- the values of each case: where the next term starts and where the words written end
+abbrev pub filled-answer : Filled → Option (ℕ × ℕ)
+filled-answer (Done next end) = some (next, end)
+filled-answer Over = none
 
+-- of t, which stands at a place, u is written from the place to on, if there is room
 pub record FilledTo (t u : Term) (at : ℕ) (old : List ℕ) (to : ℕ) (new : List ℕ) (r : Filled) : Type 0 where
-  pub answer : r ≡ filledAt at to (length old) t u
+  pub answer : filled-answer r ≡ pick (leb (to + size u) (length old)) (some (at + size t, to + size u)) none
   pub words : to + size u ≤ length old → new ≡ written old to (encode u)

@@ -1,6 +1,7 @@
 -- Whether a variable occurs.
 use Prim.Native.Nat.{ℕ, _+_, _≤_}
 use mathlib.Core.List.{List}
+use mathlib.Core.Option.{Option, some, none}
 use lib.Dec.{eqb}
 use Rattle.logic.specs.Limits.{payloads}
 use Rattle.logic.specs.Result.{pick}
@@ -15,6 +16,11 @@ pub record Searchable (ws : List ℕ) (at c : ℕ) : Type 0 where
   pub here : At ws at term
   pub deep : c + size term ≤ payloads
 
--- of a term that ends at a place, by how often the variable stands free
-abbrev pub occurrence : ℕ → ℕ → Occurrence
-occurrence end n = pick (eqb n 0) (Absent end) Present
+-- the values of each case: where the term ends that the variable does not occur in
+abbrev pub occurrence-answer : Occurrence → Option ℕ
+occurrence-answer (Absent end) = some end
+occurrence-answer Present = none
+
+-- where a term ends, in which the variable stands free n times, if that is never
+abbrev pub absent : ℕ → ℕ → Option ℕ
+absent end n = pick (eqb n 0) (some end) none

@@ -20,6 +20,8 @@ use Rattle.logic.specs.Reading.{branch, leaf, shape, Plain, PlainType}
 use Rattle.logic.specs.Infer.{same, condition, domain, Parts, parts}
 use Rattle.logic.proofs.Basics.{clash}
 use Rattle.logic.proofs.Proposition.{same-yes, same-no}
+use Rattle.logic.proofs.Results.{then-is}
+use Rattle.logic.proofs.Stopped.{stop-then}
 use Rattle.logic.proofs.Words.{first, head, shape-first, encode-size}
 use Rattle.logic.specs.Kind.{kind-binder, opKind, kindOf}
 use Rattle.words.specs.Place.{At, written}
@@ -30,7 +32,7 @@ use Rattle.moves.proofs.Shifts.{length-shift}
 use Rattle.rules.specs.Rule.{ready}
 use Rattle.rules.specs.Scope.{tail, entry-head, entry}
 use Rattle.rules.specs.Form.{front-words, level-words}
-use Rattle.rules.specs.Enter.{Enters, keep-of, Entering-by, Entering, Kept, Keepable}
+use Rattle.rules.specs.Enter.{Enters, keep-of, entered-answer, Entry-kept, Entering, Kept, Keepable}
 use Rattle.rules.specs.declared.enter.Entered.the-variants.{Fits, Fails}
 use Rattle.rules.proofs.Fronts.{type-part}
 use Rattle.rules.proofs.Kepts.{drop-written, written-before, written-inside, kept-tail, kept-type, kept-none}
@@ -229,18 +231,19 @@ plain-rule bindO at a A n w e q k = absurd (k refl)
 
 module _ {o : Op} {at : ℕ} {a A : Term} {n : ℕ} {test : Result (Unit {0})} {xs : List ℕ} {keep : ℕ} (rule : Rule o at a A n test xs keep) where
   passes : (used : ℕ) (old new : List ℕ) (r : ℕ) → test ≡ ok tt → Kept xs used old new r → used + length xs + size A ≤ length old → TypeAt old 0 A → Entering o at a A n used old new (Fits keep r)
-  unfolding Entering
   passes used old new r e k l h =
       let x : entry o at a A ≡ xs = rule .keeps in
-      subst (λ (t : Result (Unit {0})). Entering-by t o at a A n used old new (Fits keep r)) (sym (rule .tests ∙ e)) (
-        ap₂ (λ (i j : ℕ). Fits i j) (sym (rule .front)) (k .count ∙ ap (λ (y : List ℕ). used + length y) (sym x)),
-        ap (λ (y : List ℕ). tail (used + length y) new) x ∙ kept-tail xs old new used r (omega arith) k ∙ ap (λ (y : List ℕ). y ++ tail used old) (sym x),
-        kept-type xs old new used r (omega arith) k A l h,
-      )
+      let t = rule .tests ∙ e in
+      record {
+        answer = ap₂ (λ (i j : ℕ). entered-answer at (Fits i j)) (sym (rule .front)) (k .count ∙ ap (λ (y : List ℕ). used + length y) (sym x)) ∙ sym (then-is _ t refl);
+        kept = subst (λ (u : Result (Unit {0})). Entry-kept u o at a A used old new) (sym t) (
+          ap (λ (y : List ℕ). tail (used + length y) new) x ∙ kept-tail xs old new used r (omega arith) k ∙ ap (λ (y : List ℕ). y ++ tail used old) (sym x),
+          kept-type xs old new used r (omega arith) k A l h,
+        );
+      }
 
-  fails : (used : ℕ) (old : List ℕ) (p : ℕ) → test ≡ refused condition-fails p → Entering o at a A n used old old Fails
-  unfolding Entering
-  fails used old p e = subst (λ (x : Result (Unit {0})). Entering-by x o at a A n used old old Fails) (sym (rule .tests ∙ e)) (refl, refl)
+  fails : (used : ℕ) (old : List ℕ) → test ≡ refused condition-fails at → Entering o at a A n used old old Fails
+  fails used old e = let t = rule .tests ∙ e in record { answer = sym (stop-then _ t); kept = subst (λ (u : Result (Unit {0})). Entry-kept u o at a A used old old) (sym t) refl }
 
 -- ---- the answers
 
@@ -262,7 +265,7 @@ module _ {proof ws : List ℕ} {at next n : ℕ} {o : Op} {a A : Term} (used : �
   app-passes t e = passes-none (app-rule o at a A n _ (j .head) t) (node-passes piO e)
 
   pub app-fails : tag-of (getD proof at 0) ≡ tag-app → (getD ws 0 0 ≡ opWord piO → ⊥) → Entering o at a A n used ws ws Fails
-  app-fails t q = fails (app-rule o at a A n _ (j .head) t) used ws at (node-fails piO q)
+  app-fails t q = fails (app-rule o at a A n _ (j .head) t) used ws (node-fails piO q)
 
   -- what `keep_says` asks
   pub bind-keeps : getD ws 0 0 ≡ opWord saysO → Keepable ws used n
@@ -281,7 +284,7 @@ module _ {proof ws : List ℕ} {at next n : ℕ} {o : Op} {a A : Term} (used : �
       passes (bind-rule o at a A n _ (j .head) t) used ws new r (node-passes saysO e) k (omega arith) (j .type)
 
   pub bind-fails : tag-of (getD proof at 0) ≡ tag-bind → (getD ws 0 0 ≡ opWord saysO → ⊥) → Entering o at a A n used ws ws Fails
-  bind-fails t q = fails (bind-rule o at a A n _ (j .head) t) used ws at (node-fails saysO q)
+  bind-fails t q = fails (bind-rule o at a A n _ (j .head) t) used ws (node-fails saysO q)
 
   -- what `kind` answers
   op-kind : (k : ℕ) → k ≡ kindOf (shape (getD proof at 0)) → opKind o ≡ k
@@ -306,10 +309,10 @@ module _ {proof ws : List ℕ} {at next n : ℕ} {o : Op} {a A : Term} (used : �
       (j .type)
 
   pub binder-fails : {k : ℕ} {b : Bool} → (tag-of (getD proof at 0) ≡ tag-bind → ⊥) → k ≡ kindOf (shape (getD proof at 0)) → k ≡ kind-binder → b ≡ false → Answers b → Entering o at a A n used ws ws Fails
-  binder-fails {k} {b} t e i d f = fails (binder-rule o at a A n _ (j .head) t (op-kind k e ∙ i)) used ws at (ap (condition at) (sym (domain-is b f) ∙ d))
+  binder-fails {k} {b} t e i d f = fails (binder-rule o at a A n _ (j .head) t (op-kind k e ∙ i)) used ws (ap (condition at) (sym (domain-is b f) ∙ d))
 
   pub plain-passes : {k : ℕ} {b : Bool} → (tag-of (getD proof at 0) ≡ tag-app → ⊥) → k ≡ kindOf (shape (getD proof at 0)) → (k ≡ kind-binder → ⊥) → b ≡ true → b ≡ same A N → Entering o at a A n used ws ws (Fits 0 used)
   plain-passes {k} t e q d f = passes-none (plain-rule o at a A n _ (j .head) t (λ i. q (sym (op-kind k e) ∙ i))) (ap (condition at) (sym f ∙ d))
 
   pub plain-fails : {k : ℕ} {b : Bool} → (tag-of (getD proof at 0) ≡ tag-app → ⊥) → k ≡ kindOf (shape (getD proof at 0)) → (k ≡ kind-binder → ⊥) → b ≡ false → b ≡ same A N → Entering o at a A n used ws ws Fails
-  plain-fails {k} t e q d f = fails (plain-rule o at a A n _ (j .head) t (λ i. q (sym (op-kind k e) ∙ i))) used ws at (ap (condition at) (sym f ∙ d))
+  plain-fails {k} t e q d f = fails (plain-rule o at a A n _ (j .head) t (λ i. q (sym (op-kind k e) ∙ i))) used ws (ap (condition at) (sym f ∙ d))

@@ -16,6 +16,8 @@ use Rattle.logic.specs.Reading.{PlainType}
 use Rattle.logic.specs.Infer.{same, condition, measured}
 use Rattle.logic.proofs.Basics.{clash}
 use Rattle.logic.proofs.Proposition.{same-true, same-yes, same-no}
+use Rattle.logic.proofs.Results.{ok-inj, bound}
+use Rattle.logic.proofs.Stopped.{not-refused, stopped}
 use Rattle.logic.proofs.Words.{first, InRangeAtom, InRange, encode-size, encode-injective}
 use Rattle.words.specs.Place.{written}
 use Rattle.words.specs.Typed.{TypeAt}
@@ -23,7 +25,8 @@ use Rattle.words.proofs.Lists.{length-head}
 use Rattle.words.proofs.Places.{size-pos, words-head}
 use Rattle.words.proofs.Sames.{same-test}
 use Rattle.words.proofs.Types.{in-range}
-use Rattle.rules.specs.Form.{front-words, Formed}
+use Rattle.rules.specs.Form.{derivation-answer, ended, front-words, Formed}
+use Rattle.rules.specs.declared.derivation.Derivation.{Derivation}
 use Rattle.rules.specs.declared.derivation.Derivation.the-variants.{Typed, Refused}
 
 -- ---- a type of one word
@@ -94,10 +97,21 @@ refuses o m p end ws e = subst (λ (o : Result Term). Formed o end ws ws (Refuse
 
 pub types : (o : Result Term) (A : Term) (words end : ℕ) (ws new : List ℕ) → o ≡ ok A → words ≡ size A → TypeAt new 0 A → drop front-words new ≡ drop front-words ws → Formed o end ws new (Typed words end)
 types o A words end ws new e s h r =
-    subst (λ (o : Result Term). Formed o end ws new (Typed words end)) (sym e) (record { answer = ap (λ (w : ℕ). Typed w end) s; front = h; rest = r })
+    subst (λ (o : Result Term). Formed o end ws new (Typed words end)) (sym e) (record { answer = ap (λ (w : ℕ). derivation-answer (Typed w end)) s; front = h; rest = r })
 
 -- the words of the type were written at the front, after others that left the rest
 pub writes : (o : Result Term) (A : Term) (words end : ℕ) (ws mid new : List ℕ) → o ≡ ok A → words ≡ size A → size A ≤ most-type-words → PlainType A → drop front-words mid ≡ drop front-words ws → new ≡ written mid 0 (encode A) → Formed o end ws new (Typed words end)
 writes o A words end ws mid new e s l p k w =
     let z : length (encode A) ≡ size A = encode-size A in
     types o A words end ws new e s (record { plain = p; rest = drop (0 + length (encode A)) mid; words = w }) (written-kept mid new (encode A) 0 front-words (omega arith) w (omega arith) ∙ k)
+
+-- ---- what an answer tells
+
+module _ {r : Derivation} (o : Result Term) (end : ℕ) (e : derivation-answer r ≡ ended o end) where
+  pub refused-by : (m p : ℕ) → r ≡ Refused m p → o ≡ refused m p
+  refused-by m p q = stopped o _ (sym e ∙ ap derivation-answer q) (λ i. i) λ A i j. absurd (not-refused j)
+
+  pub typed-by : {Z : Type 0} (words last : ℕ) → r ≡ Typed words last → ((A : Term) → o ≡ ok A → words ≡ size A → last ≡ end → Z) → Z
+  typed-by words last q f = bound o _ (sym e ∙ ap derivation-answer q) λ A i j.
+      let v : _≡_ {A = ℕ × ℕ} (size A, end) (words, last) = ok-inj j in
+      f A i (sym (ap (λ (x : ℕ × ℕ). x .0) v)) (sym (ap (λ (x : ℕ × ℕ). x .1) v))

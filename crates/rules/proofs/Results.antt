@@ -6,11 +6,12 @@ use mathlib.Core.Path.{_≡_, refl, sym, ap, ap₂, subst, _∙_}
 use mathlib.Core.Logic.{inl, inr}
 use mathlib.Core.Bool.{Bool, true, false, not}
 use mathlib.Core.List.{List, _∷_, _++_, append-assoc, tail-eq-of-cons-eq}
+use mathlib.Core.Option.{Option, some, none}
 use lib.Dec.{ltb, eqb}
 use lib.IntN.{pos, negsuc}
 use lib.Seq.{drop-drop, take-at, getD-drop}
 use lib.ListN.{length, take, drop, set, getD, take-append-drop, length-append, length-drop, length-set}
-use borrow.Author.Tests.{not-true, not-false}
+use borrow.Author.Tests.{not-true, not-false, eq-eqb}
 use Rattle.logic.specs.Limits.{payloads, most-type-words}
 use Rattle.logic.specs.Refusals.{condition-fails, type-too-long}
 use Rattle.logic.specs.Result.{Result, refused, _>>_, pick}
@@ -28,16 +29,15 @@ use Rattle.words.specs.Place.{At, Is, written}
 use Rattle.words.specs.Typed.{TypeAt}
 use Rattle.moves.specs.Shift.{Shifted}
 use Rattle.moves.specs.Fill.{FilledTo}
-use Rattle.moves.specs.Occurrence.{occurrence}
+use Rattle.moves.specs.Occurrence.{absent}
 use Rattle.moves.specs.declared.fill.Filled.{Filled}
 use Rattle.moves.specs.declared.fill.Filled.the-variants.{Done, Over}
-use Rattle.moves.specs.declared.occurrence.Occurrence.{Occurrence}
-use Rattle.moves.specs.declared.occurrence.Occurrence.the-variants.{Absent, Present}
 use Rattle.words.proofs.Lists.{written-cons, written-node, written-front}
 use Rattle.words.proofs.Places.{size-pos, words-head, at-head, at-part, at-sign, at-left, at-right}
 use Rattle.words.proofs.Types.{in-range}
 use Rattle.moves.proofs.Shifts.{size-shift, length-shift}
 use Rattle.moves.proofs.Fills.{done-is, over-is}
+use Rattle.moves.proofs.Occurrences.{absent-is, present-is}
 use Rattle.rules.specs.Rule.{sign-type, paired, applied, bound}
 use Rattle.rules.specs.Scope.{entry-head}
 use Rattle.rules.specs.Form.{front-words, Formed}
@@ -110,12 +110,12 @@ module _ (proof ws : List ℕ) (at next n m end : ℕ) (d C e E : Term) (j : App
     module _ (zeros filled : List ℕ) (r : Filled) (f : FilledTo C (fillAt 0 e C) (1 + m) zeros 0 filled r) where
       pub apply-over : length zeros ≡ most-type-words → r ≡ Over → Formed (applied at d C e E) end ws ws (Refused type-too-long at)
       apply-over l o =
-          let g = over-is C (fillAt 0 e C) (1 + m) 0 (length zeros) r (f .answer) o in
+          let g = over-is C (fillAt 0 e C) (1 + m) 0 (length zeros) (f .answer) o in
           refuses _ type-too-long at end ws (filled-type _ (measured-long at (fill C e) (omega arith)))
 
       pub apply-done : length zeros ≤ most-type-words → (new : List ℕ) (k words : ℕ) → r ≡ Done k words → new ≡ written ws 0 (take words (drop 0 filled)) → Formed (applied at d C e E) end ws new (Typed words end)
       apply-done l new k words o c =
-          let was = done-is C (fillAt 0 e C) (1 + m) 0 (length zeros) k words r (f .answer) o in
+          let was = done-is C (fillAt 0 e C) (1 + m) 0 (length zeros) (f .answer) k words o in
           let s : words ≡ size (fillAt 0 e C) = let x : words ≡ 0 + size (fillAt 0 e C) = was .end-is in omega arith in
           let fits = was .fits in
           let small : size (fill C e) ≤ most-type-words = omega arith in
@@ -339,15 +339,11 @@ module _ (ws : List ℕ) (used at m end : ℕ) (p q B : Term) (j : Binds ws used
           let i : 0 + 1 + size (raise 1 p) ≡ said = omega arith in
           subst (λ (k : ℕ). At ws k (saying .right)) i (at-right (subst (At ws 0) (saying .is) said-at))
 
-      module _ (r : Occurrence) (f : r ≡ occurrence (said + size (saying .right)) (occurs 0 (saying .right))) where
-        pub bind-present : r ≡ Present → Formed (bound at p B) end ws ws (Refused condition-fails at)
-        bind-present t = refuses _ condition-fails at end ws (bound-said at p B saying _ (fails at _ _ (go (eqb (occurs 0 (saying .right)) 0) (sym t ∙ f))))
-          where
-            go : (b : Bool) → Present ≡ pick b (Absent (said + size (saying .right))) Present → b ≡ false
-            go true x = absurd (clash (cc))
-            go false x = refl
+      module _ (r : Option ℕ) (f : r ≡ absent (said + size (saying .right)) (occurs 0 (saying .right))) where
+        pub bind-present : r ≡ none → Formed (bound at p B) end ws ws (Refused condition-fails at)
+        bind-present t = refuses _ condition-fails at end ws (bound-said at p B saying _ (fails at _ _ (present-is (occurs 0 (saying .right)) _ (sym t ∙ f))))
 
-        pub bind-absent : (k : ℕ) (new : List ℕ) (words : ℕ) → r ≡ Absent k → m ≤ most-type-words → Shifted B 0 (negsuc 0) ws 0 new words → Formed (bound at p B) end ws new (Typed words end)
+        pub bind-absent : (k : ℕ) (new : List ℕ) (words : ℕ) → r ≡ some k → m ≤ most-type-words → Shifted B 0 (negsuc 0) ws 0 new words → Formed (bound at p B) end ws new (Typed words end)
         unfolding shift
         bind-absent k new words t l h =
             let low : shift 0 (negsuc 0) B ≡ Says p (lower (saying .right)) = ap lower (saying .is) ∙ ap (λ (u : Term). Says u (lower (saying .right))) (lower-raise 0 p) in
@@ -355,10 +351,6 @@ module _ (ws : List ℕ) (used at m end : ℕ) (p q B : Term) (j : Binds ws used
             let n = j .type-words in
             let small : size (Says p (lower (saying .right))) ≤ most-type-words = omega arith in
             writes _ (Says p (lower (saying .right))) words end ws ws new
-            (bound-said at p B saying _ (pass condition-fails at (go (eqb (occurs 0 (saying .right)) 0) (sym t ∙ f)) (measured-fits at _ small)))
+            (bound-said at p B saying _ (pass condition-fails at (eq-eqb (occurs 0 (saying .right)) 0 (absent-is (occurs 0 (saying .right)) _ k (sym t ∙ f) .never)) (measured-fits at _ small)))
             (h .count ∙ sym z) small (inl (subst Plain low (plain-lower 0 B (said-at .plain)))) refl
             (h .words ∙ ap (λ (u : Term). written ws 0 (encode u)) low)
-          where
-            go : (b : Bool) → Absent k ≡ pick b (Absent (said + size (saying .right))) Present → b ≡ true
-            go true x = refl
-            go false x = absurd (clash (cc))

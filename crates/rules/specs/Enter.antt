@@ -4,7 +4,8 @@ use mathlib.Core.Path.{_≡_}
 use mathlib.Core.List.{List, _++_}
 use lib.ListN.{length, getD}
 use Rattle.logic.specs.Limits.{most-words, most-type-words}
-use Rattle.logic.specs.Result.{Result, ok, refused}
+use Rattle.logic.specs.Refusals.{condition-fails}
+use Rattle.logic.specs.Result.{Result, ok, refused, _>>_}
 use Rattle.logic.specs.Term.{Op, saysO, piO, lamO, appO, retO, bindO, Term, Says, opWord, size}
 use Rattle.words.specs.Place.{At, written}
 use Rattle.words.specs.Typed.{TypeAt}
@@ -54,11 +55,16 @@ keep-of appO n = n
 keep-of retO n = 0
 keep-of bindO n = 0
 
--- the test passed: the entry of the binder, if any, is kept at the end, before what was; or it failed, and nothing was written
-abbrev pub Entering-by : Result (Unit {0}) → Op → ℕ → (a A : Term) → (n used : ℕ) → (old new : List ℕ) → Entered → Type 0
-Entering-by (ok _) o at a A n used old new r =
-    (r ≡ Fits (keep-of o n) (used + length (entry o at a A))) × (tail (used + length (entry o at a A)) new ≡ entry o at a A ++ tail used old) × TypeAt new 0 A
-Entering-by (refused m p) o at a A n used old new r = (r ≡ Fails) × (new ≡ old)
+-- number and values of each case, of a node at the place `at`: the words kept at the front and at the end
+abbrev pub entered-answer : (at : ℕ) → Entered → Result (ℕ × ℕ)
+entered-answer at (Fits keep used) = ok (keep, used)
+entered-answer at Fails = refused condition-fails at
 
-unfoldable pub Entering : Op → ℕ → (a A : Term) → (n used : ℕ) → (old new : List ℕ) → Entered → Type 0
-Entering o at a A n used old new r = Entering-by (ready o at a A) o at a A n used old new r
+-- the test passed: the entry of the binder, if any, is kept at the end, before what was; or it failed, and nothing was written
+abbrev pub Entry-kept : Result (Unit {0}) → Op → ℕ → (a A : Term) → (used : ℕ) → (old new : List ℕ) → Type 0
+Entry-kept (ok _) o at a A used old new = (tail (used + length (entry o at a A)) new ≡ entry o at a A ++ tail used old) × TypeAt new 0 A
+Entry-kept (refused m p) o at a A used old new = new ≡ old
+
+pub record Entering (o : Op) (at : ℕ) (a A : Term) (n used : ℕ) (old new : List ℕ) (r : Entered) : Type 0 where
+  pub answer : entered-answer at r ≡ (ready o at a A >> ok (keep-of o n, used + length (entry o at a A)))
+  pub kept : Entry-kept (ready o at a A) o at a A used old new

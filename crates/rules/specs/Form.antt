@@ -4,16 +4,27 @@ use mathlib.Core.Path.{_≡_}
 use mathlib.Core.List.{List}
 use lib.ListN.{drop}
 use Rattle.logic.specs.Limits.{most-type-words}
-use Rattle.logic.specs.Result.{Result, ok, refused}
+use Rattle.logic.specs.Result.{Result, ok, refused, _>>=_}
 use Rattle.logic.specs.Term.{Term, size}
 use Rattle.words.specs.Typed.{TypeAt}
 use Rattle.rules.specs.declared.derivation.Derivation.{Derivation}
 use Rattle.rules.specs.declared.derivation.Derivation.the-variants.{Typed, Refused}
+use Rattle.rules.specs.declared.derivation.Verdict.{Verdict}
+use Rattle.rules.specs.declared.derivation.Verdict.the-variants.{Passed, Fault}
 
--- the numbers of an answer, where the term ends at `end`
-abbrev pub answer-of : Result Term → ℕ → Derivation
-answer-of (ok A) end = Typed (size A) end
-answer-of (refused m p) end = Refused m p
+-- number, place and values of each case: the words of the type, and where the term ends
+abbrev pub derivation-answer : Derivation → Result (ℕ × ℕ)
+derivation-answer (Typed words end) = ok (words, end)
+derivation-answer (Refused m p) = refused m p
+
+-- number and place of each case
+abbrev pub verdict-answer : Verdict → Result (Unit {0})
+verdict-answer Passed = ok tt
+verdict-answer (Fault m p) = refused m p
+
+-- the words of the type that came out, of a term that ends at `end`
+abbrev pub ended : Result Term → ℕ → Result (ℕ × ℕ)
+ended o end = o >>= λ A. ok (size A, end)
 
 -- the type that came out stands at the front of the workspace
 abbrev pub Front : Result Term → List ℕ → Type 0
@@ -26,7 +37,7 @@ front-words = most-type-words + most-type-words
 
 -- a type is at the front, and only the front was written
 pub record Formed (o : Result Term) (end : ℕ) (old new : List ℕ) (r : Derivation) : Type 0 where
-  pub answer : r ≡ answer-of o end
+  pub answer : derivation-answer r ≡ ended o end
   pub front : Front o new
   pub rest : drop front-words new ≡ drop front-words old
 

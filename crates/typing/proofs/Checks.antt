@@ -4,12 +4,12 @@ use native.Mathlib.Omega.{arith}
 use mathlib.Core.Path.{_≡_, refl, sym, ap, subst, _∙_}
 use mathlib.Core.Bool.{Bool, true, false, _&&_}
 use mathlib.Core.List.{List, []}
-use mathlib.Core.Option.{Option, none}
+use mathlib.Core.Option.{none}
 use lib.Dec.{leb}
 use lib.ListN.{length}
 use borrow.Author.Tests.{le-leb, lt-leb}
 use Rattle.logic.specs.Limits.{most-nesting}
-use Rattle.logic.specs.Refusals.{term-length, malformed, nesting as nesting-number}
+use Rattle.logic.specs.Refusals.{term-length, malformed, nesting}
 use Rattle.logic.specs.Result.{Result, ok, refused, _>>=_, _>>_, require, nowhere}
 use Rattle.logic.specs.Term.{Term, size}
 use Rattle.logic.specs.Scope.{no-binder}
@@ -20,16 +20,12 @@ use Rattle.logic.proofs.Results.{pass, true-both}
 use Rattle.logic.proofs.Searches.{too-deep-right}
 use Rattle.words.specs.Place.{Is}
 use Rattle.words.specs.Parsing.{whole}
-use Rattle.words.specs.Nesting.{nesting}
-use Rattle.words.specs.declared.read.Parse.{Parse}
-use Rattle.words.specs.declared.read.Parse.the-variants.{End, Bad}
-use Rattle.words.specs.declared.nesting.Nesting.{Nesting}
-use Rattle.words.specs.declared.nesting.Nesting.the-variants.{Within, Past}
+use Rattle.words.specs.Nesting.{nested-to}
 use Rattle.words.proofs.Places.{is-at, size-is}
 use Rattle.words.proofs.Parses.{whole-term, whole-malformed}
-use Rattle.words.proofs.Nestings.{past-is, within-is}
+use Rattle.words.proofs.Nestings.{past-is}
 use Rattle.rules.specs.Scope.{no-binder as no-entries}
-use Rattle.rules.specs.Form.{answer-of}
+use Rattle.rules.specs.Form.{ended}
 use Rattle.typing.specs.Derive.{Derived, Ready}
 use Rattle.typing.specs.Check.{Constants-of, typed-term, Judged}
 use Rattle.rules.specs.declared.derivation.Derivation.{Derivation}
@@ -57,23 +53,23 @@ module _ (Σ : List Term) (most deep : ℕ) (ws new : List ℕ) where
     in-range : (leb 1 (length ws) && leb (length ws) most) ≡ true
     in-range = true-both (le-leb 1 (length ws) some-word) (le-leb (length ws) most not-more)
 
-    pub malformed-term : (r : Parse) (place : ℕ) → r ≡ whole (read-whole ws) → r ≡ Bad place → Judged (typed-term Σ most deep ws) (length ws) new (Refused malformed place)
-    malformed-term r place e q =
-        let h = whole-malformed ws place (sym e ∙ q) in
-        judged-refused _ _ new malformed place (ap (λ x. x >>= λ t. infer Σ [] 0 t) (pass term-length 0 in-range (ap (λ x. x >>= λ t. nowhere nesting-number (too-deep deep 0 t) >> ok t) h)))
+    pub malformed-term : (place : ℕ) → whole (read-whole ws) ≡ refused malformed place → Judged (typed-term Σ most deep ws) (length ws) new (Refused malformed place)
+    malformed-term place e =
+        let h = whole-malformed ws place e in
+        judged-refused _ _ new malformed place (ap (λ x. x >>= λ t. infer Σ [] 0 t) (pass term-length 0 in-range (ap (λ x. x >>= λ t. nowhere nesting (too-deep deep 0 t) >> ok t) h)))
 
     module _ (t : Term) (is : read-whole ws ≡ ok t) where
-      read-term : typed-term Σ most deep ws ≡ ((nowhere nesting-number (too-deep deep 0 t) >> ok t) >>= λ t. infer Σ [] 0 t)
-      read-term = ap (λ x. x >>= λ t. infer Σ [] 0 t) (pass term-length 0 in-range (ap (λ x. x >>= λ t. nowhere nesting-number (too-deep deep 0 t) >> ok t) is))
+      read-term : typed-term Σ most deep ws ≡ ((nowhere nesting (too-deep deep 0 t) >> ok t) >>= λ t. infer Σ [] 0 t)
+      read-term = ap (λ x. x >>= λ t. infer Σ [] 0 t) (pass term-length 0 in-range (ap (λ x. x >>= λ t. nowhere nesting (too-deep deep 0 t) >> ok t) is))
 
-      pub deep-term : (r : Nesting) (end place : ℕ) → r ≡ nesting end (too-deep deep 0 t) → r ≡ Past place → Judged (typed-term Σ most deep ws) (length ws) new (Refused nesting-number place)
-      deep-term r end place e q =
-          let h = past-is (too-deep deep 0 t) end place (sym q ∙ e) in
-          judged-refused _ _ new nesting-number place (read-term ∙ ap (λ x. (nowhere nesting-number x >> ok t) >>= λ t. infer Σ [] 0 t) h)
+      pub deep-term : (place : ℕ) → nested-to deep 0 t ≡ refused nesting place → Judged (typed-term Σ most deep ws) (length ws) new (Refused nesting place)
+      deep-term place e =
+          let h = past-is deep 0 place t e in
+          judged-refused _ _ new nesting place (read-term ∙ ap (λ x. (nowhere nesting x >> ok t) >>= λ t. infer Σ [] 0 t) h)
 
       -- a term that is not too deep is inferred
       pub inferred-term : too-deep deep 0 t ≡ none → typed-term Σ most deep ws ≡ infer Σ [] 0 t
-      inferred-term h = read-term ∙ ap (λ x. (nowhere nesting-number x >> ok t) >>= λ t. infer Σ [] 0 t) h
+      inferred-term h = read-term ∙ ap (λ x. (nowhere nesting x >> ok t) >>= λ t. infer Σ [] 0 t) h
 
 -- the term that was read
 pub record Term-in (ws : List ℕ) : Type 0 where
@@ -81,8 +77,8 @@ pub record Term-in (ws : List ℕ) : Type 0 where
   pub read : read-whole ws ≡ ok term
   pub is : Is ws term
 
-pub term-in : (ws : List ℕ) (r : Parse) (end : ℕ) → r ≡ whole (read-whole ws) → r ≡ End end → Term-in ws
-term-in ws r end e q = let (t, f, i, n) = whole-term ws end (sym e ∙ q) in record { term = t; read = f; is = i }
+pub term-in : (ws : List ℕ) (end : ℕ) → whole (read-whole ws) ≡ ok end → Term-in ws
+term-in ws end e = let (t, f, i, n) = whole-term ws end e in record { term = t; read = f; is = i }
 
 -- with no binders, a term that is not too deep is ready
 pub ready-term : (sig table proof ws : List ℕ) (deep : ℕ) (Σ : List Term) (t : Term) → Constants-of sig table Σ → Is proof t → too-deep deep 0 t ≡ none → deep ≤ most-nesting → Ready sig table proof ws 0 0 0 deep Σ [] t
@@ -96,10 +92,7 @@ ready-term sig table proof ws deep Σ t C i h l = record {
   few = omega arith;
 }
 
-pub fine-depth : (r : Nesting) (end next : ℕ) (x : Option ℕ) → r ≡ nesting end x → r ≡ Within next → x ≡ none
-fine-depth r end next x e q = within-is x end next (sym q ∙ e) .fine
-
 pub judged-term : (o o′ : Result Term) (ws old new : List ℕ) (t : Term) (r : Derivation) → o ≡ o′ → Is ws t → Derived o′ (0 + size t) 0 old new r → Judged o (length ws) new r
 judged-term o o′ ws old new t r e i d =
     let n : 0 + size t ≡ length ws = omega (arith, size-is ws t i) in
-    subst (λ (x : Result Term). Judged x (length ws) new r) (sym e) (record { answer = d .answer ∙ ap (answer-of o′) n; front = d .front })
+    subst (λ (x : Result Term). Judged x (length ws) new r) (sym e) (record { answer = d .answer ∙ ap (ended o′) n; front = d .front })

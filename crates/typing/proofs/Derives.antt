@@ -3,7 +3,6 @@ use Prim.Native.Nat.{ℕ, suc, _+_, _-_, _*_, _≤_}
 use native.Mathlib.Omega.{arith}
 use mathlib.Core.Path.{_≡_, refl, sym, ap, ap₂, subst, subst₂, _∙_}
 use mathlib.Core.Logic.{inl, inr}
-use mathlib.Core.Bool.{Bool, true, false}
 use mathlib.Core.List.{List, [], _∷_, _++_, append-assoc}
 use mathlib.Core.Option.{Option, some, none}
 use lib.ListN.{length, take, drop, getD, getElem?, length-append}
@@ -11,16 +10,17 @@ use lib.Seq.{take-at, drop-at, drop-drop, take-append-add, length-take-le}
 use lib.IntN.{pos}
 use Rattle.logic.specs.Limits.{most-words, most-type-words}
 use Rattle.logic.specs.Refusals.{unbound-variable, condition-fails}
-use Rattle.logic.specs.Result.{Result, ok, refused, _>>=_, _>>_, require, known}
+use Rattle.logic.specs.Result.{Result, ok, refused, _>>=_, _>>_, known}
 use Rattle.logic.specs.Kind.{kind-atom, kind-variable, kind-sign}
-use Rattle.logic.specs.Term.{Atom, Op, saysO, piO, lamO, appO, retO, bindO, Term, atom, var, sign, node, N, P, Says, Pi, payload-of, atomWord, opWord, encode, size}
+use Rattle.logic.specs.Term.{Atom, Op, saysO, piO, lamO, appO, retO, bindO, Term, atom, var, sign, node, P, Says, Pi, payload-of, atomWord, opWord, encode, size}
 use Rattle.logic.specs.Move.{raise, fill}
 use Rattle.logic.specs.Typing.{Has, of-prop}
 use Rattle.logic.specs.Scope.{Context, no-binder, binder}
 use Rattle.logic.specs.Infer.{infer, measured, same, domain, Parts, parts}
 use Rattle.logic.specs.Reading.{PlainAtom, Plain, PlainType, depth}
 use Rattle.logic.proofs.Basics.{clash}
-use Rattle.logic.proofs.Results.{not-ok, pass, require-ok}
+use Rattle.logic.proofs.Results.{not-ok, ok-inj, followed, pass, require-ok}
+use Rattle.logic.proofs.Stopped.{not-refused, stopped-then}
 use Rattle.logic.proofs.Words.{encode-size, plain-in-range}
 use Rattle.logic.proofs.Range.{AllNamed, in-range-named, named-shift, plain-typed, inferred}
 use Rattle.logic.proofs.Substitution.{weaken-one}
@@ -36,11 +36,12 @@ use Rattle.logic.proofs.Shapes.{headKind, op-low}
 use Rattle.moves.proofs.Shifts.{size-shift}
 use Rattle.rules.specs.Rule.{atom-type, variable-type, sign-type, first, second, ready, within, formed}
 use Rattle.rules.specs.Scope.{tail, scope-words, entry-head, Binders, no-binder as no-entries, in-proof, in-workspace, entry, Declared}
-use Rattle.rules.specs.Form.{answer-of, Front, Formed, front-words, level-words}
+use Rattle.rules.specs.Form.{derivation-answer, Front, Formed, front-words, level-words}
 use Rattle.typing.specs.Derive.{Derived, Ready}
 use Rattle.rules.specs.Variable.{Raises}
 use Rattle.rules.specs.Results.{Signs, First, Forms, Formable}
-use Rattle.rules.specs.Enter.{Enters, Entering, Entering-by, keep-of}
+use Rattle.rules.specs.Enter.{Enters, keep-of, entered-answer, Entry-kept, Entering}
+use Rattle.rules.proofs.Fronts.{typed-by, refused-by}
 use Rattle.rules.specs.declared.derivation.Derivation.{Derivation}
 use Rattle.rules.specs.declared.derivation.Derivation.the-variants.{Typed, Refused}
 use Rattle.rules.specs.declared.enter.Entered.{Entered}
@@ -57,26 +58,18 @@ pub record Answered (o : Result Term) (end : ℕ) (new : List ℕ) (n e : ℕ) :
   pub ends : e ≡ end
   pub front : TypeAt new 0 type
 
-answered : (o : Result Term) (end : ℕ) (new : List ℕ) (n e : ℕ) → Typed n e ≡ answer-of o end → Front o new → Answered o end new n e
-answered (ok A) end new n e q f = record { type = A; is = refl; words = cc; ends = cc; front = f }
-answered (refused m p) end new n e q f = absurd (clash (cc))
-
 pub typed-is : (o : Result Term) (end used : ℕ) (old new : List ℕ) (r : Derivation) (n e : ℕ) → Derived o end used old new r → r ≡ Typed n e → Answered o end new n e
-typed-is o end used old new r n e d q = answered o end new n e (sym q ∙ d .answer) (d .front)
-
-refused-by : (o : Result Term) (end m p : ℕ) → Refused m p ≡ answer-of o end → o ≡ refused m p
-refused-by (ok A) end m p q = absurd (clash (cc))
-refused-by (refused m′ p′) end m p q = cc
+typed-is o end used old new r n e d q = typed-by o end (d .answer) n e q λ A i w l. record { type = A; is = i; words = w; ends = l; front = subst (λ (x : Result Term). Front x new) i (d .front) }
 
 pub refused-is : (o : Result Term) (end used : ℕ) (old new : List ℕ) (r : Derivation) (m p : ℕ) → Derived o end used old new r → r ≡ Refused m p → o ≡ refused m p
-refused-is o end used old new r m p d q = refused-by o end m p (sym q ∙ d .answer)
+refused-is o end used old new r m p d q = refused-by o end (d .answer) m p q
 
 -- a rule that wrote only the front left the words kept at the end
 pub from-front : (o : Result Term) (end used : ℕ) (old new : List ℕ) (r : Derivation) → length new ≡ length old → used + front-words ≤ length old → Formed o end old new r → Derived o end used old new r
 from-front o end used old new r e l f = record { answer = f .answer; front = f .front; kept = tail-kept used front-words old new e (f .rest) (omega arith) }
 
 pub refused-derived : (o : Result Term) (end used : ℕ) (old new : List ℕ) (r : Derivation) (m p : ℕ) → o ≡ refused m p → r ≡ Refused m p → tail used new ≡ tail used old → Derived o end used old new r
-refused-derived o end used old new r m p e q k = subst (λ (x : Result Term). Derived x end used old new r) (sym e) (record { answer = q; front = tt; kept = k })
+refused-derived o end used old new r m p e q k = subst (λ (x : Result Term). Derived x end used old new r) (sym e) (record { answer = ap derivation-answer q; front = tt; kept = k })
 
 -- what stands behind an entry
 tail-behind : (used kept : ℕ) (x e y : List ℕ) → kept ≡ used + length e → kept ≤ length x → tail kept x ≡ e ++ y → tail used x ≡ y
@@ -151,45 +144,22 @@ pub record Inside (mid mid2 : List ℕ) (used at n keep kept : ℕ) (o : Op) (a 
   pub entered : tail kept mid2 ≡ entry o at a A ++ tail used mid
   pub front : TypeAt mid2 0 A
 
-inside-by : (x : Result (Unit {0})) (o : Op) (at : ℕ) (a A : Term) (n used : ℕ) (mid mid2 : List ℕ) (keep kept : ℕ) → x ≡ ready o at a A → Entering-by x o at a A n used mid mid2 (Fits keep kept) → Inside mid mid2 used at n keep kept o a A
-inside-by (ok u) o at a A n used mid mid2 keep kept e (q, t, f) =
-    let k : kept ≡ used + length (entry o at a A) = cc in
-    record { passed = sym e; keep-is = cc; kept-is = k; entered = ap (λ (i : ℕ). tail i mid2) k ∙ t; front = f }
-inside-by (refused m p) o at a A n used mid mid2 keep kept e (q, t) = absurd (clash (cc))
-
 pub inside : (o : Op) (at : ℕ) (a A : Term) (n used : ℕ) (mid mid2 : List ℕ) (r : Entered) (keep kept : ℕ) → Entering o at a A n used mid mid2 r → r ≡ Fits keep kept → Inside mid mid2 used at n keep kept o a A
-unfolding Entering
-inside o at a A n used mid mid2 r keep kept e q = inside-by (ready o at a A) o at a A n used mid mid2 keep kept refl (subst (Entering-by (ready o at a A) o at a A n used mid mid2) q e)
+inside o at a A n used mid mid2 r keep kept e q = followed (ready o at a A) _ (sym (e .answer) ∙ ap (entered-answer at) q) λ u i j.
+    let v : _≡_ {A = ℕ × ℕ} (keep-of o n, used + length (entry o at a A)) (keep, kept) = ok-inj j in
+    let k : kept ≡ used + length (entry o at a A) = sym (ap (λ (x : ℕ × ℕ). x .1) v) in
+    let w = subst (λ (x : Result (Unit {0})). Entry-kept x o at a A used mid mid2) i (e .kept) in
+    record { passed = i; keep-is = sym (ap (λ (x : ℕ × ℕ). x .0) v); kept-is = k; entered = ap (λ (i : ℕ). tail i mid2) k ∙ w .0; front = w .1 }
 
 -- a test that fails is refused at the node
 record Failed (mid mid2 : List ℕ) (o : Op) (at : ℕ) (a A : Term) : Type 0 where
   fails : ready o at a A ≡ refused condition-fails at
   unchanged : mid2 ≡ mid
 
-require-refused : (b : Bool) (m p m′ p′ : ℕ) → require b m p ≡ refused m′ p′ → require b m p ≡ refused m p
-require-refused true m p m′ p′ e = absurd (clash (cc))
-require-refused false m p m′ p′ e = refl
-
-known-refused : (o : Option Parts) (m p m′ p′ : ℕ) → (known m p o >> ok (tt {0})) ≡ refused m′ p′ → (known m p o >> ok (tt {0})) ≡ refused m p
-known-refused none m p m′ p′ e = refl
-known-refused (some x) m p m′ p′ e = absurd (clash (cc))
-
-ready-refused : (o : Op) (at : ℕ) (a A : Term) (m p : ℕ) → ready o at a A ≡ refused m p → ready o at a A ≡ refused condition-fails at
-unfolding ready
-ready-refused saysO at a A m p e = require-refused (same A N) condition-fails at m p e
-ready-refused piO at a A m p e = require-refused (domain a A) condition-fails at m p e
-ready-refused lamO at a A m p e = require-refused (domain a A) condition-fails at m p e
-ready-refused appO at a A m p e = known-refused (parts piO A) condition-fails at m p e
-ready-refused retO at a A m p e = require-refused (same A N) condition-fails at m p e
-ready-refused bindO at a A m p e = known-refused (parts saysO A) condition-fails at m p e
-
-failed-by : (x : Result (Unit {0})) (o : Op) (at : ℕ) (a A : Term) (n used : ℕ) (mid mid2 : List ℕ) → x ≡ ready o at a A → Entering-by x o at a A n used mid mid2 Fails → Failed mid mid2 o at a A
-failed-by (ok u) o at a A n used mid mid2 e (q, t, f) = absurd (clash (cc))
-failed-by (refused m p) o at a A n used mid mid2 e (q, t) = record { fails = ready-refused o at a A m p (sym e); unchanged = t }
-
 failed : (o : Op) (at : ℕ) (a A : Term) (n used : ℕ) (mid mid2 : List ℕ) (r : Entered) → Entering o at a A n used mid mid2 r → r ≡ Fails → Failed mid mid2 o at a A
-unfolding Entering
-failed o at a A n used mid mid2 r e q = failed-by (ready o at a A) o at a A n used mid mid2 refl (subst (Entering-by (ready o at a A) o at a A n used mid mid2) q e)
+failed o at a A n used mid mid2 r e q = stopped-then (ready o at a A) _ (sym (e .answer) ∙ ap (entered-answer at) q)
+    (λ i. record { fails = i; unchanged = subst (λ (x : Result (Unit {0})). Entry-kept x o at a A used mid mid2) i (e .kept) })
+    λ u i j. absurd (not-refused j)
 
 -- what the test says of the first child's type
 

@@ -1,7 +1,7 @@
 -- Tests 6 to 12 of a proposition that is checked as a Sign.
 use Prim.Native.Nat.{ℕ, _+_, _≤_, _<_}
 use native.Mathlib.Omega.{arith}
-use mathlib.Core.Path.{_≡_, refl, sym, ap, _∙_}
+use mathlib.Core.Path.{_≡_, refl, sym, ap, subst, _∙_}
 use mathlib.Core.Bool.{true, false}
 use mathlib.Core.List.{List, []}
 use lib.ListN.{length}
@@ -12,16 +12,16 @@ use Rattle.logic.specs.Term.{Term, P, Name, Says, size}
 use Rattle.logic.specs.Infer.{infer, same, condition, measured}
 use Rattle.logic.specs.Check.{term-of, check-statement}
 use Rattle.logic.proofs.Basics.{clash}
-use Rattle.logic.proofs.Results.{pass}
+use Rattle.logic.proofs.Results.{pass, then-is}
+use Rattle.logic.proofs.Stopped.{stop-then}
 use Rattle.logic.proofs.Words.{encode-size}
 use Rattle.logic.proofs.Check.{term-of-right}
 use Rattle.words.specs.Typed.{TypeAt}
-use Rattle.rules.specs.Form.{answer-of, Front}
+use Rattle.rules.specs.Form.{Front}
 use Rattle.rules.specs.declared.derivation.Derivation.{Derivation}
 use Rattle.rules.specs.declared.derivation.Derivation.the-variants.{Typed, Refused}
-use Rattle.rules.specs.declared.derivation.Verdict.the-variants.{Passed, Fault}
-use Rattle.rules.proofs.Fronts.{fails, measured-fits, measured-long}
-use Rattle.typing.specs.Check.{typed-term, Judged, verdict-of}
+use Rattle.rules.proofs.Fronts.{fails, measured-fits, measured-long, typed-by, refused-by}
+use Rattle.typing.specs.Check.{typed-term, Judged, without-value}
 
 module _ (Σ : List Term) (a : ℕ) where
   -- the tests that are left, of the proposition q of the type s
@@ -47,35 +47,34 @@ module _ (Σ : List Term) (a : ℕ) where
     pub type-words : words ≡ size A
 
   module _ (ws new : List ℕ) (r : Derivation) (end : ℕ) (J : Judged (typed-term Σ most-statement-words most-statement-nesting ws) end new r) where
-    pub statement-refused : (m p : ℕ) → r ≡ Refused m p → Fault m p ≡ verdict-of (check-statement Σ a ws)
-    statement-refused m p q = go (typed-term Σ most-statement-words most-statement-nesting ws) refl (sym q ∙ J .answer)
-      where
-        go : (o : Result Term) → typed-term Σ most-statement-words most-statement-nesting ws ≡ o → Refused m p ≡ answer-of o end → Fault m p ≡ verdict-of (check-statement Σ a ws)
-        go (ok A) e f = absurd (clash (cc))
-        go (refused m′ p′) e f = sym (ap verdict-of (passed-on (term-of most-statement-words most-statement-nesting ws) m′ p′ e) ∙ cc)
+    pub statement-refused : (m p : ℕ) → r ≡ Refused m p → refused m p ≡ without-value (check-statement Σ a ws)
+    statement-refused m p q = sym (stop-then _ (passed-on (term-of most-statement-words most-statement-nesting ws) m p (refused-by _ end (J .answer) m p q)))
 
     pub statement-typed : (words e : ℕ) → r ≡ Typed words e → Typed-as ws new words
-    statement-typed words e q = go (typed-term Σ most-statement-words most-statement-nesting ws) refl (sym q ∙ J .answer) (J .front)
-      where
-        go : (o : Result Term) → typed-term Σ most-statement-words most-statement-nesting ws ≡ o → Typed words e ≡ answer-of o end → Front o new → Typed-as ws new words
-        go (ok A) e f h =
-            let (q, i, s) = went-on (term-of most-statement-words most-statement-nesting ws) A e in
-            record { q = q; A = A; is = s; long = ap length (term-of-right most-statement-words most-statement-nesting ws q .0 i .words) ∙ encode-size q; type = h; type-words = cc }
-        go (refused m p) e f h = absurd (clash (cc))
+    statement-typed words e q = typed-by _ end (J .answer) words e q λ A i w l.
+        let (q, j, s) = went-on (term-of most-statement-words most-statement-nesting ws) A i in
+        record {
+          q = q;
+          A = A;
+          is = s;
+          long = ap length (term-of-right most-statement-words most-statement-nesting ws q .0 j .words) ∙ encode-size q;
+          type = subst (λ (x : Result Term). Front x new) i (J .front);
+          type-words = w;
+        }
 
   module _ (ws new : List ℕ) (words : ℕ) (S : Typed-as ws new words) where
-    pub no-proposition : false ≡ same (S .A) P → Fault condition-fails 0 ≡ verdict-of (check-statement Σ a ws)
-    no-proposition e = sym (ap verdict-of (S .is ∙ fails 0 (same (S .A) P) _ (sym e)))
+    pub no-proposition : false ≡ same (S .A) P → refused condition-fails 0 ≡ without-value (check-statement Σ a ws)
+    no-proposition e = sym (stop-then _ (S .is ∙ fails 0 (same (S .A) P) _ (sym e)))
 
     module _ (e : true ≡ same (S .A) P) where
-      pub long-statement : most-type-words < length ws + 2 → Fault type-too-long 0 ≡ verdict-of (check-statement Σ a ws)
+      pub long-statement : most-type-words < length ws + 2 → refused type-too-long 0 ≡ without-value (check-statement Σ a ws)
       unfolding size
       long-statement l =
           let h : most-type-words < size (Says (Name a) (S .q)) = omega (arith, S .long) in
-          sym (ap verdict-of (S .is ∙ pass condition-fails 0 (sym e) (ap (λ x. x >> ok (S .q)) (measured-long 0 (Says (Name a) (S .q)) h))))
+          sym (stop-then _ (S .is ∙ pass condition-fails 0 (sym e) (stop-then _ (measured-long 0 (Says (Name a) (S .q)) h))))
 
-      pub short-statement : length ws + 2 ≤ most-type-words → Passed ≡ verdict-of (check-statement Σ a ws)
+      pub short-statement : length ws + 2 ≤ most-type-words → ok tt ≡ without-value (check-statement Σ a ws)
       unfolding size
       short-statement l =
           let h : size (Says (Name a) (S .q)) ≤ most-type-words = omega (arith, S .long) in
-          sym (ap verdict-of (S .is ∙ pass condition-fails 0 (sym e) (ap (λ x. x >> ok (S .q)) (measured-fits 0 (Says (Name a) (S .q)) h))))
+          sym (then-is _ (S .is ∙ pass condition-fails 0 (sym e) (then-is _ (measured-fits 0 (Says (Name a) (S .q)) h) refl)) refl)

@@ -1,16 +1,16 @@
 -- What a verdict tells of the tests that it answers for.
 use Prim.Native.Nat.{ℕ}
-use mathlib.Core.Path.{_≡_, refl}
+use mathlib.Core.Path.{_≡_, sym, ap, _∙_}
 use Rattle.logic.specs.Result.{Result, ok, refused}
-use Rattle.logic.proofs.Basics.{clash}
+use Rattle.logic.proofs.Results.{followed}
+use Rattle.logic.proofs.Stopped.{not-refused, stopped-then}
+use Rattle.rules.specs.Form.{verdict-answer}
+use Rattle.typing.specs.Check.{without-value}
 use Rattle.rules.specs.declared.derivation.Verdict.{Verdict}
 use Rattle.rules.specs.declared.derivation.Verdict.the-variants.{Passed, Fault}
-use Rattle.typing.specs.Check.{verdict-of}
 
-pub fault-told : {X : Type 0} (o : Result X) (r : Verdict) (m p : ℕ) → r ≡ verdict-of o → r ≡ Fault m p → o ≡ refused m p
-fault-told (ok x) r m p e f = absurd (clash (cc))
-fault-told (refused m′ p′) r m p e f = cc
+pub fault-told : {X : Type 0} (o : Result X) (r : Verdict) (m p : ℕ) → verdict-answer r ≡ without-value o → r ≡ Fault m p → o ≡ refused m p
+fault-told o r m p e f = stopped-then o _ (sym e ∙ ap verdict-answer f) (λ i. i) λ x i j. absurd (not-refused j)
 
-pub passed-told : {X : Type 0} (o : Result X) (r : Verdict) → r ≡ verdict-of o → r ≡ Passed → (x : X) × (o ≡ ok x)
-passed-told (ok x) r e f = (x, refl)
-passed-told (refused m p) r e f = absurd (clash (cc))
+pub passed-told : {X : Type 0} (o : Result X) (r : Verdict) → verdict-answer r ≡ without-value o → r ≡ Passed → (x : X) × (o ≡ ok x)
+passed-told o r e f = followed o _ (sym e ∙ ap verdict-answer f) λ x i j. (x, i)

@@ -4,16 +4,14 @@ use mathlib.Core.Path.{_≡_}
 use mathlib.Core.List.{List, []}
 use lib.ListN.{length}
 use Rattle.logic.specs.Limits.{least-workspace, most-words, most-nesting}
-use Rattle.logic.specs.Result.{Result, ok, refused, _>>=_}
+use Rattle.logic.specs.Result.{Result, ok, _>>=_, _>>_}
 use Rattle.logic.specs.Term.{Term}
 use Rattle.logic.specs.Scope.{Signature}
 use Rattle.logic.specs.Infer.{infer}
 use Rattle.logic.specs.Check.{term-of}
 use Rattle.rules.specs.Scope.{Declared}
-use Rattle.rules.specs.Form.{answer-of, Front}
+use Rattle.rules.specs.Form.{derivation-answer, ended, Front}
 use Rattle.rules.specs.declared.derivation.Derivation.{Derivation}
-use Rattle.rules.specs.declared.derivation.Verdict.{Verdict}
-use Rattle.rules.specs.declared.derivation.Verdict.the-variants.{Passed, Fault}
 
 -- the constants' types, by the table, are those of a signature
 pub record Constants-of (sig table : List ℕ) (Σ : List Term) : Type 0 where
@@ -34,10 +32,9 @@ typed-term Σ most deep ws = term-of most deep ws >>= λ t. infer Σ [] 0 t
 
 -- the answer, and the type at the front of the workspace
 pub record Judged (o : Result Term) (end : ℕ) (new : List ℕ) (r : Derivation) : Type 0 where
-  pub answer : r ≡ answer-of o end
+  pub answer : derivation-answer r ≡ ended o end
   pub front : Front o new
 
--- whether the tests passed, or number and place
-abbrev pub verdict-of : {X : Type 0} → Result X → Verdict
-verdict-of (ok x) = Passed
-verdict-of (refused m p) = Fault m p
+-- tests, whatever value they give
+abbrev pub without-value : {X : Type 0} → Result X → Result (Unit {0})
+without-value o = o >> ok tt

@@ -10,12 +10,12 @@ use Rattle.logic.specs.Reading.{depth}
 use Rattle.logic.specs.Scope.{Signature, Context}
 use Rattle.words.specs.Place.{At}
 use Rattle.rules.specs.Scope.{tail, scope-words, Binders, Declared}
-use Rattle.rules.specs.Form.{answer-of, Front, front-words, level-words}
+use Rattle.rules.specs.Form.{derivation-answer, ended, Front, front-words, level-words}
 use Rattle.rules.specs.declared.derivation.Derivation.{Derivation}
 
 -- a type is at the front, and the words kept at the end are as they were
 pub record Derived (o : Result Term) (end used : ℕ) (old new : List ℕ) (r : Derivation) : Type 0 where
-  pub answer : r ≡ answer-of o end
+  pub answer : derivation-answer r ≡ ended o end
   pub front : Front o new
   pub kept : tail used new ≡ tail used old
 

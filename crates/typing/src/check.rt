@@ -24,7 +24,8 @@ ghost use mathlib.Core.List.{List};
 ghost use Rattle.logic.specs.Limits.{most-statement-words, most-statement-nesting};
 ghost use Rattle.logic.specs.Term.{Term};
 ghost use Rattle.logic.specs.Check.{check-statement};
-ghost use Rattle.typing.specs.Check.{Constants-of, Checkable, typed-term, Judged, verdict-of};
+ghost use Rattle.rules.specs.Form.{verdict-answer};
+ghost use Rattle.typing.specs.Check.{Constants-of, Checkable, typed-term, Judged, without-value};
 
 // Tests 6 to 12 of a term of at most `most` words, nested at most `deep`. Its type comes to the front of the workspace.
 pub fn check_term(
@@ -71,7 +72,7 @@ pub fn check_term(
 // Tests 6 to 12 of a proposition as the term Sign: its places count from 0, and a fault at the added word is at place 0. That word counts for 6 and 8.
 pub fn check_statement(sig: &[u32], table: &[u32], proposition: &[u32], ws: &mut [u32]) -> Verdict
     requires { ⌜ Checkable (now sig) (now table) (now ws) most-statement-words most-statement-nesting ⌝ }
-    ensures { λ r. ⌜ ((Σ : List Term) → (a : ℕ) → Constants-of (now (sig .entry)) (now (table .entry)) Σ → r ≡ verdict-of (check-statement Σ a (now (proposition .entry)))) ⌝ }
+    ensures { λ r. ⌜ ((Σ : List Term) → (a : ℕ) → Constants-of (now (sig .entry)) (now (table .entry)) Σ → verdict-answer r ≡ without-value (check-statement Σ a (now (proposition .entry)))) ⌝ }
 {
     let typed = check_term(
         sig,

@@ -1,9 +1,10 @@
 use Rattle.io.proofs.Counting.{counts}
 use Rattle.moves.proofs.Fills.{done-is}
+use Rattle.words.specs.Parsing.{parse-answer}
 use Rattle.words.proofs.Parses.{whole-term}
 use Rattle.words.proofs.Places.{is-at, size-is}
 use Rattle.logic.specs.Move.{fillAt}
-use mathlib.Core.Path.{sym, _∙_}
+use mathlib.Core.Path.{sym, ap, _∙_}
 use native.Mathlib.Omega.{arith}
 use borrow.Author.Needs.{needs}
 use Rattle.words_run.proofs.filled.Statement.{statement}
@@ -49,8 +50,8 @@ returns-4 c = search needs
 fill-into-requires : tie.Need-fill-into-requires
 fill-into-requires c κs =
     let s = c .before .before .before .before .before .before .before .before .before .before .before .before .before .before in
-    let (t, e, is, n) = whole-term (s .args .body .now) _ (sym (c .before .before .before .before .before .before .before .before .before .before .read-whole .ensures) ∙ c .before .before .before .before .before .before .before .before .first .given .1) in
-    let (u, e′, is′, m) = whole-term (s .args .filler .now) _ (sym (c .before .before .before .before .before .before .read-whole2 .ensures) ∙ c .before .before .before .before .second .given .1) in
+    let (t, e, is, n) = whole-term (s .args .body .now) _ (sym (c .before .before .before .before .before .before .before .before .before .before .read-whole .ensures) ∙ ap parse-answer (c .before .before .before .before .before .before .before .before .first .given .1)) in
+    let (u, e′, is′, m) = whole-term (s .args .filler .now) _ (sym (c .before .before .before .before .before .before .read-whole2 .ensures) ∙ ap parse-answer (c .before .before .before .before .second .given .1)) in
     let l = size-is (s .args .filler .now) u is′ in
     (omega arith, record { term = t; here = is-at is; deep = omega arith; filler = u; lends = is′; short = omega arith })
 
@@ -72,9 +73,9 @@ same-length-2 c = search needs
 returns-6 : tie.Need-returns-6
 returns-6 c =
     let s = c .before .before .before .before .before .before .before .before .before .before .before .before .before .before .before .before .before .before .before .before in
-    let (t, e, is, n) = whole-term (s .args .body .now) _ (sym (c .before .before .before .before .before .before .before .before .before .before .before .before .before .before .before .before .read-whole .ensures) ∙ c .before .before .before .before .before .before .before .before .before .before .before .before .before .before .first .given .1) in
-    let (u, e′, is′, m) = whole-term (s .args .filler .now) _ (sym (c .before .before .before .before .before .before .before .before .before .before .before .before .read-whole2 .ensures) ∙ c .before .before .before .before .before .before .before .before .before .before .second .given .1) in
-    let was = done-is t (fillAt 0 u t) 0 0 _ _ _ (c .before .before .before .before .before .fill-into .result) (c .before .before .before .before .before .fill-into .ensures t u (is-at is) is′ .answer) (c .before .done .given .1) in
+    let (t, e, is, n) = whole-term (s .args .body .now) _ (sym (c .before .before .before .before .before .before .before .before .before .before .before .before .before .before .before .before .read-whole .ensures) ∙ ap parse-answer (c .before .before .before .before .before .before .before .before .before .before .before .before .before .before .first .given .1)) in
+    let (u, e′, is′, m) = whole-term (s .args .filler .now) _ (sym (c .before .before .before .before .before .before .before .before .before .before .before .before .read-whole2 .ensures) ∙ ap parse-answer (c .before .before .before .before .before .before .before .before .before .before .second .given .1)) in
+    let was = done-is t (fillAt 0 u t) 0 0 _ (c .before .before .before .before .before .fill-into .ensures t u (is-at is) is′ .answer) _ _ (c .before .done .given .1) in
     let k = c .before .before .before .before .before .fill-into .kept .1 .1 .1 .1 .0 in
     counts _ _ (omega (arith, was .fits))
 

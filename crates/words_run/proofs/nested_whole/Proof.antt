@@ -1,6 +1,7 @@
+use Rattle.words.specs.Parsing.{parse-answer}
 use Rattle.words.proofs.Parses.{whole-term}
 use Rattle.words.proofs.Places.{is-at}
-use mathlib.Core.Path.{sym, _∙_}
+use mathlib.Core.Path.{sym, ap, _∙_}
 use borrow.Author.Needs.{needs}
 use Rattle.words_run.proofs.nested_whole.Statement.{statement}
 use Rattle.words_run.proofs.nested_whole.Tie as tie
@@ -24,7 +25,7 @@ returns c = search needs
 nested-requires : tie.Need-nested-requires
 nested-requires c κs =
     let s = c .before .before .before .before .before in
-    let (t, e, is, n) = whole-term (s .args .words .now) _ (sym (c .before .before .before .read-whole .ensures) ∙ c .before .read .given .1) in
+    let (t, e, is, n) = whole-term (s .args .words .now) _ (sym (c .before .before .before .read-whole .ensures) ∙ ap parse-answer (c .before .read .given .1)) in
     record { term = t; here = is-at is }
 
 returns-2 : tie.Need-returns-2

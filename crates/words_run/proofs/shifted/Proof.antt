@@ -1,10 +1,11 @@
 use Rattle.io.proofs.Counting.{counts}
 use Rattle.words_run.proofs.Amounts.{near}
+use Rattle.words.specs.Parsing.{parse-answer}
 use Rattle.words.proofs.Parses.{whole-term}
 use Rattle.words.proofs.Places.{is-at}
 use mir.Val.{toZ, ofZ}
 use mir.Syntax.{w32}
-use mathlib.Core.Path.{sym, _∙_}
+use mathlib.Core.Path.{sym, ap, _∙_}
 use native.Mathlib.Omega.{arith}
 use borrow.Author.Needs.{needs}
 use Rattle.words_run.proofs.shifted.Statement.{statement}
@@ -50,7 +51,7 @@ returns-6 c = search needs
 shift-into-requires : tie.Need-shift-into-requires
 shift-into-requires c κs =
     let s = c .before .before .before .before .before .before .before .before .before .before .before .before in
-    let (t, e, is, n) = whole-term (s .args .words .now) _ (sym (c .before .before .before .before .before .before .before .before .before .read-whole .ensures) ∙ c .before .before .before .before .before .before .before .read .given .1) in
+    let (t, e, is, n) = whole-term (s .args .words .now) _ (sym (c .before .before .before .before .before .before .before .before .before .read-whole .ensures) ∙ ap parse-answer (c .before .before .before .before .before .before .before .read .given .1)) in
     (omega arith, record { term = t; here = is-at is; fits = omega arith; deep = omega arith; near = near (toZ w32 (ofZ w32 (s .args .amount))) (c .before .before .if4 .left) (c .before .if5 .left) })
 
 same-length : tie.Need-same-length
@@ -59,7 +60,7 @@ same-length c = search needs
 returns-7 : tie.Need-returns-7
 returns-7 c =
     let s = c .before .before .before .before .before .before .before .before .before .before .before .before .before .before .before in
-    let (t, e, is, n) = whole-term (s .args .words .now) _ (sym (c .before .before .before .before .before .before .before .before .before .before .before .before .read-whole .ensures) ∙ c .before .before .before .before .before .before .before .before .before .before .read .given .1) in
+    let (t, e, is, n) = whole-term (s .args .words .now) _ (sym (c .before .before .before .before .before .before .before .before .before .before .before .before .read-whole .ensures) ∙ ap parse-answer (c .before .before .before .before .before .before .before .before .before .before .read .given .1)) in
     let r = c .before .before .shift-into .ensures t (is-at is) .count in
     let k = c .before .before .shift-into .kept .1 .1 .1 .1 .0 in
     counts _ _ (omega arith)

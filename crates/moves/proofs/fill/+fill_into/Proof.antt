@@ -74,7 +74,7 @@ first t c =
     let l = c .before .before .before .before .before .before .before .before .before .before .before .before .before .loop in
     let n = node t (c .before .before .before .before .before .before .before) in
     let p = l .inv .3 in
-    done-is (n .first) (fillAt (l .depth) (p .filler) (n .first)) (l .start + 1) (l .place + 1) _ _ _ (c .before .before .before .before .before .fill-into .result) (c .before .before .before .before .before .fill-into .ensures (n .first) (p .filler) (n .left) (p .lends) .answer) (c .before .first .given .1)
+    done-is (n .first) (fillAt (l .depth) (p .filler) (n .first)) (l .start + 1) (l .place + 1) _ (c .before .before .before .before .before .fill-into .ensures (n .first) (p .filler) (n .left) (p .lends) .answer) _ _ (c .before .first .given .1)
 
 loop-holds : (t : ℕ) → lts.Need-loop-holds (calls t) (given t) fill-into.Post Inv-loop μ-loop
 loop-holds t c = let p = c .before .before .before .pre .1 in (omega arith, p .0, refl, p .1, λ new r f. f)

@@ -1,5 +1,5 @@
 use Prim.Native.Nat.{ℕ, _+_, _-_, _<_}
-use mathlib.Core.Path.{_≡_, sym, subst, _∙_}
+use mathlib.Core.Path.{_≡_, sym, ap, subst, _∙_}
 use native.Mathlib.Omega.{arith}
 use lib.ListN.{length}
 use borrow.Author.Needs.{needs}
@@ -10,6 +10,7 @@ use Rattle.logic.specs.Move.{occurs as occursIn}
 use Rattle.logic.proofs.Shapes.{headKind}
 use Rattle.words.specs.Place.{At}
 use Rattle.words.proofs.Places.{at-kind, at-end, size-pos, Halves, halves}
+use Rattle.moves.specs.Occurrence.{occurrence-answer}
 use Rattle.moves.proofs.Occurrences.{occurs-atom, occurs-here, occurs-other, occurs-sign, occurs-first, occurs-second, absent-is}
 use Rattle.moves.proofs.occurrence.occurs.Reads as occurs
 use Rattle.moves.proofs.occurrence.occurs.Kinds as kinds
@@ -109,7 +110,7 @@ enum-told t c = search needs
 returns-5 : (t : ℕ) → lts.Need-returns-5 (calls t) (given t) occurs.Post
 returns-5 t c =
     let s = c .before .before .before .before .before .before .before .before .before in
-    λ u h. occurs-first (s .args .words .now) (s .args .at) (s .args .c) (c .before .before .before .before .before .before .kind .result) (c .before .before .occurs .result) (c .before .before .before .before .before .if1 .left) (c .before .before .before .before .if2 .left) (c .before .before .before .if4 .left) (c .before .before .occurs .ensures) (c .enum-told .given .1) u h (kind-known t (c .before .before .before .before .before .before) u h)
+    λ u h. occurs-first (s .args .words .now) (s .args .at) (s .args .c) (c .before .before .before .before .before .before .kind .result) _ (c .before .before .before .before .before .if1 .left) (c .before .before .before .before .if2 .left) (c .before .before .before .if4 .left) (c .before .before .occurs .ensures) (ap occurrence-answer (c .enum-told .given .1)) u h (kind-known t (c .before .before .before .before .before .before) u h)
 
 sub-occurs : (t : ℕ) → lts.Need-sub-occurs (calls t) (given t) occurs.Post
 sub-occurs t c = let n = node t (c .before .before .before .before) in omega arith
@@ -121,14 +122,14 @@ occurs-requires-2 : (t : ℕ) → lts.Need-occurs-requires-2 (calls t) (given t)
 occurs-requires-2 t c κs =
     let s = c .before .before .before .before .before .before .before .before .before .before in
     let n = node t (c .before .before .before .before) in
-    let w = absent-is (occursIn (s .args .c) (n .first)) (s .args .at + 1 + size (n .first)) _ (sym (c .before .first .given .1) ∙ c .before .before .before .occurs .ensures (n .first) (n .left)) in
+    let w = absent-is (occursIn (s .args .c) (n .first)) (s .args .at + 1 + size (n .first)) _ (ap occurrence-answer (sym (c .before .first .given .1)) ∙ c .before .before .before .occurs .ensures (n .first) (n .left)) in
     let r = within t s in
     (omega (arith, w .next-is), record { term = n .second; here = subst (λ (j : ℕ). At (s .args .words .now) j (n .second)) (sym (w .next-is)) (n .right); deep = omega arith })
 
 returns-6 : (t : ℕ) → lts.Need-returns-6 (calls t) (given t) occurs.Post
 returns-6 t c =
     let s = c .before .before .before .before .before .before .before .before .before .before .before in
-    λ u h. occurs-second (s .args .words .now) (s .args .at) (s .args .c) (c .before .before .before .before .before .before .before .before .kind .result) _ (c .before .before .before .before .occurs .result) _ (c .before .before .before .before .before .before .before .if1 .left) (c .before .before .before .before .before .before .if2 .left) (c .before .before .before .before .before .if4 .left) (c .before .before .before .before .occurs .ensures) (c .before .before .first .given .1) (c .occurs2 .ensures) u h (kind-known t (c .before .before .before .before .before .before .before .before) u h)
+    λ u h. occurs-second (s .args .words .now) (s .args .at) (s .args .c) (c .before .before .before .before .before .before .before .before .kind .result) _ _ _ (c .before .before .before .before .before .before .before .if1 .left) (c .before .before .before .before .before .before .if2 .left) (c .before .before .before .before .before .if4 .left) (c .before .before .before .before .occurs .ensures) (ap occurrence-answer (c .before .before .first .given .1)) (c .occurs2 .ensures) u h (kind-known t (c .before .before .before .before .before .before .before .before) u h)
 
 pub +occurs-spec : {M : Type 1} → statement M
 +occurs-spec = close μ-occurs λ t. lts.spec (calls t)

@@ -1,6 +1,6 @@
 use Prim.Native.Nat.{ℕ, _+_, _-_, _≤_}
 use native.Mathlib.Omega.{arith}
-use mathlib.Core.Path.{_≡_, sym}
+use mathlib.Core.Path.{_≡_, sym, ap}
 use lib.Seq.{length-take-le}
 use lib.ListN.{length, take, drop, getD}
 use borrow.Author.Tests.{not-false}
@@ -8,6 +8,7 @@ use borrow.Author.Needs.{needs}
 use Rattle.logic.specs.Limits.{most-type-words}
 use Rattle.logic.specs.Term.{size}
 use Rattle.words.proofs.Places.{size-pos, at-end}
+use Rattle.moves.specs.Occurrence.{occurrence-answer}
 use Rattle.rules.specs.Scope.{entry-head}
 use Rattle.rules.specs.Form.{front-words}
 use Rattle.rules.proofs.Results.{total-is, kept-size, said-is, kept-inside, said-size, bind-short, bind-differs, saying, said-at, right-at, bind-present, bind-absent}
@@ -145,7 +146,7 @@ same-length-2 c = search needs
 returns-3 : tie.Need-returns-3
 returns-3 c =
     let a = c .before .before .before .before .before .before .before .before .before .before .before .before .before .args in
-    λ p q B j. let i = said-is (a .ws .now) (a .used) (a .at) (a .m) (a .end) p q B j in bind-present (a .ws .now) (a .used) (a .at) (a .m) (a .end) p q B j _ i (agree (c .before .before .before .before)) (c .before .before .occurs .result) (c .before .before .occurs .ensures _ (right-at (a .ws .now) (a .used) (a .at) (a .m) (a .end) p q B j _ i (agree (c .before .before .before .before)))) (c .enum-told .given .1)
+    λ p q B j. let i = said-is (a .ws .now) (a .used) (a .at) (a .m) (a .end) p q B j in bind-present (a .ws .now) (a .used) (a .at) (a .m) (a .end) p q B j _ i (agree (c .before .before .before .before)) _ (c .before .before .occurs .ensures _ (right-at (a .ws .now) (a .used) (a .at) (a .m) (a .end) p q B j _ i (agree (c .before .before .before .before)))) (ap occurrence-answer (c .enum-told .given .1))
 
 same-length-3 : tie.Need-same-length-3
 same-length-3 c = search needs
@@ -154,7 +155,7 @@ returns-4 : tie.Need-returns-4
 returns-4 c =
     let s = c .before .before .before .before .before .before .before .before .before .before .before .before .before .before .before .before .before in
     let a = s .args in
-    λ p q B j. let i = said-is (a .ws .now) (a .used) (a .at) (a .m) (a .end) p q B j in bind-absent (a .ws .now) (a .used) (a .at) (a .m) (a .end) p q B j _ i (agree (c .before .before .before .before .before .before .before .before)) (c .before .before .before .before .before .before .occurs .result) (c .before .before .before .before .before .before .occurs .ensures _ (right-at (a .ws .now) (a .used) (a .at) (a .m) (a .end) p q B j _ i (agree (c .before .before .before .before .before .before .before .before)))) _ _ _ (c .before .before .before .before .enum-told2 .given .1) (s .pre .small) (c .before .before .shift-within .ensures B (said-at (a .ws .now) (a .used) (a .at) (a .m) (a .end) p q B j _ i (agree (c .before .before .before .before .before .before .before .before))))
+    λ p q B j. let i = said-is (a .ws .now) (a .used) (a .at) (a .m) (a .end) p q B j in bind-absent (a .ws .now) (a .used) (a .at) (a .m) (a .end) p q B j _ i (agree (c .before .before .before .before .before .before .before .before)) _ (c .before .before .before .before .before .before .occurs .ensures _ (right-at (a .ws .now) (a .used) (a .at) (a .m) (a .end) p q B j _ i (agree (c .before .before .before .before .before .before .before .before)))) _ _ _ (ap occurrence-answer (c .before .before .before .before .enum-told2 .given .1)) (s .pre .small) (c .before .before .shift-within .ensures B (said-at (a .ws .now) (a .used) (a .at) (a .m) (a .end) p q B j _ i (agree (c .before .before .before .before .before .before .before .before))))
 
 pub bind-spec : {M : Type 1} → statement M
 bind-spec =

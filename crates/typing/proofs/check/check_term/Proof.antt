@@ -1,13 +1,16 @@
 use Prim.Native.Nat.{ℕ}
-use mathlib.Core.Path.{_≡_}
+use mathlib.Core.Path.{_≡_, sym, ap, _∙_}
 use mathlib.Core.List.{List, []}
 use mathlib.Core.Option.{none}
 use Rattle.logic.specs.Term.{Term}
 use Rattle.logic.specs.Reading.{too-deep}
+use Rattle.words.specs.Parsing.{parse-answer}
+use Rattle.words.specs.Nesting.{nesting-answer}
 use Rattle.words.proofs.Places.{is-at}
+use Rattle.words.proofs.Nestings.{within-is}
 use Rattle.typing.specs.Derive.{Ready}
 use Rattle.typing.specs.Check.{Constants-of}
-use Rattle.typing.proofs.Checks.{empty-term, long-term, malformed-term, deep-term, inferred-term, Term-in, term-in, ready-term, fine-depth, judged-term}
+use Rattle.typing.proofs.Checks.{empty-term, long-term, malformed-term, deep-term, inferred-term, Term-in, term-in, ready-term, judged-term}
 use native.Mathlib.Omega.{arith}
 use borrow.Author.Needs.{needs}
 use Rattle.typing.proofs.check.check_term.Statement.{statement}
@@ -15,10 +18,10 @@ use Rattle.typing.proofs.check.check_term.Tie as tie
 
 -- the term that was read
 read : (c : tie.After-enum-told) → Term-in (c .before .before .before .before .before .before .before .before .before .args .term .now)
-read c = term-in (c .before .before .before .before .before .before .before .before .before .args .term .now) (c .before .before .read-whole .result) _ (c .before .before .read-whole .ensures) (c .enum-told .given .1)
+read c = term-in (c .before .before .before .before .before .before .before .before .before .args .term .now) _ (sym (c .before .before .read-whole .ensures) ∙ ap parse-answer (c .enum-told .given .1))
 
 not-deep : (c : tie.After-enum-told2) → too-deep (c .before .before .before .before .before .before .before .before .before .before .before .before .args .deep) 0 (read (c .before .before .before) .term) ≡ none
-not-deep c = let T = read (c .before .before .before) in fine-depth (c .before .before .nested-whole .result) _ _ _ (c .before .before .nested-whole .ensures (T .term) (T .is)) (c .enum-told2 .given .1)
+not-deep c = let T = read (c .before .before .before) in within-is _ 0 _ (T .term) (sym (c .before .before .nested-whole .ensures (T .term) (T .is)) ∙ ap nesting-answer (c .enum-told2 .given .1)) .0
 
 ready : (c : tie.After-enum-told2) (ws : List ℕ) (Σ : List Term) → Constants-of (c .before .before .before .before .before .before .before .before .before .before .before .before .args .sig .now) (c .before .before .before .before .before .before .before .before .before .before .before .before .args .table .now) Σ → Ready (c .before .before .before .before .before .before .before .before .before .before .before .before .args .sig .now) (c .before .before .before .before .before .before .before .before .before .before .before .before .args .table .now) (c .before .before .before .before .before .before .before .before .before .before .before .before .args .term .now) ws 0 0 0 (c .before .before .before .before .before .before .before .before .before .before .before .before .args .deep) Σ [] (read (c .before .before .before) .term)
 ready c ws Σ C = ready-term (c .before .before .before .before .before .before .before .before .before .before .before .before .args .sig .now) (c .before .before .before .before .before .before .before .before .before .before .before .before .args .table .now) (c .before .before .before .before .before .before .before .before .before .before .before .before .args .term .now) ws (c .before .before .before .before .before .before .before .before .before .before .before .before .args .deep) Σ (read (c .before .before .before) .term) C (read (c .before .before .before) .is) (not-deep c) (c .before .before .before .before .before .before .before .before .before .before .before .before .pre .nesting)
@@ -36,7 +39,7 @@ enum-known-whole : tie.Need-enum-known-whole
 enum-known-whole c = search needs
 
 returns-3 : tie.Need-returns-3
-returns-3 c = let s = c .before .before .before .before .before .before .before .before .before .before in λ Σ C. malformed-term Σ (s .args .most) (s .args .deep) (s .args .term .now) (s .args .ws .now) (c .before .before .before .before .before .if1 .left) (c .before .before .before .before .if2 .left) (c .before .before .before .read-whole .result) _ (c .before .before .before .read-whole .ensures) (c .before .whole .given .1)
+returns-3 c = let s = c .before .before .before .before .before .before .before .before .before .before in λ Σ C. malformed-term Σ (s .args .most) (s .args .deep) (s .args .term .now) (s .args .ws .now) (c .before .before .before .before .before .if1 .left) (c .before .before .before .before .if2 .left) _ (sym (c .before .before .before .read-whole .ensures) ∙ ap parse-answer (c .before .whole .given .1))
 
 enum-told : tie.Need-enum-told
 enum-told c = search needs
@@ -48,7 +51,7 @@ enum-known-nesting : tie.Need-enum-known-nesting
 enum-known-nesting c = search needs
 
 returns-4 : tie.Need-returns-4
-returns-4 c = let s = c .before .before .before .before .before .before .before .before .before .before .before .before .before in let T = read (c .before .before .before .before) in λ Σ C. deep-term Σ (s .args .most) (s .args .deep) (s .args .term .now) (s .args .ws .now) (c .before .before .before .before .before .before .before .before .if1 .left) (c .before .before .before .before .before .before .before .if2 .left) (T .term) (T .read) (c .before .before .before .nested-whole .result) _ _ (c .before .before .before .nested-whole .ensures (T .term) (T .is)) (c .before .nesting .given .1)
+returns-4 c = let s = c .before .before .before .before .before .before .before .before .before .before .before .before .before in let T = read (c .before .before .before .before) in λ Σ C. deep-term Σ (s .args .most) (s .args .deep) (s .args .term .now) (s .args .ws .now) (c .before .before .before .before .before .before .before .before .if1 .left) (c .before .before .before .before .before .before .before .if2 .left) (T .term) (T .read) _ (sym (c .before .before .before .nested-whole .ensures (T .term) (T .is)) ∙ ap nesting-answer (c .before .nesting .given .1))
 
 enum-told-2 : tie.Need-enum-told-2
 enum-told-2 c = search needs

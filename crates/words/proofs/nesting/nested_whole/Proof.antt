@@ -1,4 +1,5 @@
-use Rattle.words.proofs.Nestings.{whole-few, whole-nested}
+use Rattle.words.proofs.Nestings.{whole-few}
+use Rattle.words.proofs.Places.{is-at}
 use borrow.Author.Needs.{needs}
 use Rattle.words.proofs.nesting.nested_whole.Statement.{statement}
 use Rattle.words.proofs.nesting.nested_whole.Tie as tie
@@ -10,7 +11,7 @@ nested-requires : tie.Need-nested-requires
 nested-requires c κs = search needs
 
 returns-2 : tie.Need-returns-2
-returns-2 c = whole-nested (c .before .before .before .args .words .now) (c .before .before .before .args .left) (c .nested .result) (c .nested .ensures)
+returns-2 c = λ t i. c .nested .ensures t (is-at i)
 
 pub nested-whole-spec : {M : Type 1} → statement M
 nested-whole-spec = tie.close (tie.spec returns nested-requires returns-2)
