@@ -22,13 +22,15 @@ use Rattle.logic.specs.Infer.{infer, same, same-term, condition}
 use Rattle.logic.specs.Check.{term-of, Checked}
 use Rattle.logic.proofs.Basics.{clash, no-entry}
 use Rattle.logic.proofs.Words.{encode-size}
-use Rattle.logic.proofs.Results.{pass, both-true, true-both}
+use Rattle.logic.proofs.Results.{not-ok, ok-inj, bind-is, pass, both-true, true-both}
+use Rattle.logic.proofs.Stopped.{stop}
 use Rattle.logic.proofs.Signatures.{entry-last, extend, empty-signature}
 use Rattle.words.specs.Place.{At}
 use Rattle.words.specs.Typed.{TypeAt}
 use Rattle.rules.specs.Scope.{Declared}
 use Rattle.logic.specs.SignatureList.{at-constant, constant, constants, signature}
-use Rattle.rules.specs.Form.{answer-of, Front}
+use Rattle.rules.specs.Form.{Front}
+use Rattle.rules.proofs.Fronts.{typed-by, refused-by}
 use Rattle.typing.specs.Check.{Constants-of, typed-term, Judged}
 use Rattle.signature.specs.Listing.{passed, constant-at, Read-as}
 use Rattle.typing.proofs.Checks.{and-false, require-false}
@@ -104,19 +106,11 @@ module _ (Σ : List Term) (sig : List ℕ) (at : ℕ) (l : at < length sig) wher
         go (refused m′ p′) e = absurd (clash (cc))
 
     pub not-typed : (new : List ℕ) (r : Derivation) (end m p : ℕ) → Judged (typed-term Σ most-words most-nesting (take n ws)) end new r → r ≡ Refused m p → false ≡ constant-at Σ (drop at sig)
-    not-typed new r end m p J q = sym (tests ∙ go (typed-term Σ most-words most-nesting (take n ws)) refl (sym q ∙ J .answer))
-      where
-        go : (o : Result Term) → typed-term Σ most-words most-nesting (take n ws) ≡ o → Refused m p ≡ answer-of o end → passed (constant Σ (take n ws)) ≡ false
-        go (ok A) e f = absurd (clash (cc))
-        go (refused m′ p′) e f = typed-refused m′ p′ e
+    not-typed new r end m p J q = sym (tests ∙ typed-refused m p (refused-by _ end (J .answer) m p q))
 
     pub typed-kind : (new : List ℕ) (r : Derivation) (end words e : ℕ) (b : Bool) → Judged (typed-term Σ most-words most-nesting (take n ws)) end new r → r ≡ Typed words e
         → ((A : Term) → TypeAt new 0 A → words ≡ size A → b ≡ same A KindP) → b ≡ constant-at Σ (drop at sig)
-    typed-kind new r end words e b J q f = sym (tests ∙ go (typed-term Σ most-words most-nesting (take n ws)) refl (sym q ∙ J .answer) (J .front))
-      where
-        go : (o : Result Term) → typed-term Σ most-words most-nesting (take n ws) ≡ o → Typed words e ≡ answer-of o end → Front o new → passed (constant Σ (take n ws)) ≡ b
-        go (ok A) e f′ h = typed-ok A e ∙ sym (f A h (cc))
-        go (refused m′ p′) e f′ h = absurd (clash (cc))
+    typed-kind new r end words e b J q f = typed-by _ end (J .answer) words e q λ A i w l. sym (tests ∙ typed-ok A i ∙ sym (f A (subst (λ (x : Result Term). Front x new) i (J .front)) w))
 
 -- ---- the types of a permit and of a receipt
 
@@ -225,7 +219,7 @@ reading-start sig table = record {
 -- the list is refused at a place
 refused-at : (sig table : List ℕ) (at k : ℕ) (Σ : List Term) (ws : List ℕ) → signature sig ≡ constants k at Σ ws → 0 < k → ((k : ℕ) → constants (suc k) at Σ ws ≡ refused bad-signature at) → Read-as (signature sig) sig table (Bad at)
 refused-at sig table at zero Σ ws e l f = absurd (omega arith)
-refused-at sig table at (suc k) Σ ws e l f = subst (λ (x : Result (List Term)). Read-as x sig table (Bad at)) (sym (e ∙ f k)) refl
+refused-at sig table at (suc k) Σ ws e l f = let q = e ∙ f k in record { answer = sym (stop _ q); constants = λ Σ i. absurd (not-ok (sym q ∙ i)) }
 
 module _ (sig table : List ℕ) (at count : ℕ) (R : Reading sig table at count) where
   more-words : at < length sig → 0 < length (drop at sig)
@@ -244,7 +238,10 @@ module _ (sig table : List ℕ) (at count : ℕ) (R : Reading sig table at count
       go zero e h = absurd (omega arith)
       go (suc k) e h =
           let q : signature sig ≡ ok (R .Σ) = e ∙ ap (constants (suc k) at (R .Σ)) (drop-of-length-le sig l) ∙ ended k at (R .Σ) in
-          subst (λ (x : Result (List Term)). Read-as x sig table (Accepted count)) (sym q) (ap Accepted (R .counted), subst (λ (i : ℕ). Constants-of sig (take i table) (R .Σ)) (R .counted) (R .constants-are))
+          record {
+            answer = ap ok (R .counted) ∙ sym (bind-is _ q refl);
+            constants = λ Σ i. subst (λ (Σ : List Term). Constants-of sig (take (length Σ) table) Σ) (ok-inj (sym q ∙ i)) (subst (λ (n : ℕ). Constants-of sig (take n table) (R .Σ)) (R .counted) (R .constants-are));
+          }
 
 -- the table with the place of one type more
 module _ (sig table : List ℕ) (x : ℕ) (Σ : List Term) (A : Term) (D : Declared sig table Σ) (here : At sig x A) (one-before : 1 ≤ x) (length-there : getD sig (x - 1) 0 ≡ size A) where

@@ -6,7 +6,8 @@ use mathlib.Core.List.{List, [], _∷_}
 use lib.Dec.{leb}
 use lib.ListN.{length, take}
 use Rattle.logic.specs.Limits.{least-workspace, most-constants, most-constant-words}
-use Rattle.logic.specs.Result.{Result, ok, refused}
+use Rattle.logic.specs.Refusals.{bad-signature}
+use Rattle.logic.specs.Result.{Result, ok, refused, _>>=_}
 use Rattle.logic.specs.Term.{Term}
 use Rattle.logic.specs.SignatureList.{constant}
 use Rattle.rules.specs.Scope.{Declared}
@@ -14,10 +15,15 @@ use Rattle.typing.specs.Check.{Constants-of}
 use Rattle.signature.specs.declared.list.Listed.{Listed}
 use Rattle.signature.specs.declared.list.Listed.the-variants.{Accepted, Bad}
 
+-- number, place and value of each case: how many constants, or the place of the first bad one's length word
+abbrev pub listed-answer : Listed → Result ℕ
+listed-answer (Accepted n) = ok n
+listed-answer (Bad p) = refused bad-signature p
+
 -- a signature list was read: the first words of the table say where the constants' types stand
-abbrev pub Read-as : Result (List Term) → (sig table : List ℕ) → Listed → Type 0
-Read-as (ok Σ) sig table r = (r ≡ Accepted (length Σ)) × Constants-of sig (take (length Σ) table) Σ
-Read-as (refused m p) sig table r = r ≡ Bad p
+pub record Read-as (o : Result (List Term)) (sig table : List ℕ) (r : Listed) : Type 0 where
+  pub answer : listed-answer r ≡ (o >>= λ Σ. ok (length Σ))
+  pub constants : (Σ : List Term) → o ≡ ok Σ → Constants-of sig (take (length Σ) table) Σ
 
 -- a table for as many constants as there may be, and a workspace that is not short
 pub record Readable (table ws : List ℕ) : Type 0 where
