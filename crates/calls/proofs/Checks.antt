@@ -21,7 +21,8 @@ use Rattle.logic.proofs.Check.{term-of-right}
 use Rattle.words.specs.Place.{Is}
 use Rattle.words.specs.Typed.{TypeAt}
 use Rattle.words.proofs.Places.{end-of}
-use Rattle.rules.specs.Form.{answer-of, Front}
+use Rattle.rules.specs.Form.{Front}
+use Rattle.rules.proofs.Fronts.{typed-by, refused-by}
 use Rattle.rules.specs.declared.derivation.Derivation.{Derivation}
 use Rattle.rules.specs.declared.derivation.Derivation.the-variants.{Typed, Refused}
 use Rattle.typing.specs.Check.{Constants-of, typed-term, Judged}
@@ -127,18 +128,10 @@ pub record Type-found (o : Result Term) (new : List ℕ) (words : ℕ) : Type 0 
   pub front : TypeAt new 0 type
 
 pub type-found : (o : Result Term) (end : ℕ) (new : List ℕ) (r : Derivation) (words e : ℕ) → Judged o end new r → r ≡ Typed words e → Type-found o new words
-type-found o end new r words e J q = go o refl (sym q ∙ J .answer) (J .front)
-  where
-    go : (x : Result Term) → o ≡ x → Typed words e ≡ answer-of x end → Front x new → Type-found o new words
-    go (ok A) f g h = record { type = A; is = f; words-are = cc; front = h }
-    go (refused m p) f g h = absurd (clash (cc))
+type-found o end new r words e J q = typed-by o end (J .answer) words e q λ A i w l. record { type = A; is = i; words-are = w; front = subst (λ (x : Result Term). Front x new) i (J .front) }
 
 pub type-refused : (o : Result Term) (end : ℕ) (new : List ℕ) (r : Derivation) (m p : ℕ) → Judged o end new r → r ≡ Refused m p → o ≡ refused m p
-type-refused o end new r m p J q = go o (sym q ∙ J .answer)
-  where
-    go : (x : Result Term) → Refused m p ≡ answer-of x end → x ≡ refused m p
-    go (ok A) g = absurd (clash (cc))
-    go (refused m′ p′) g = cc
+type-refused o end new r m p J q = refused-by o end (J .answer) m p q
 
 judged-refused : (o : Result Term) (end : ℕ) (new : List ℕ) (m p : ℕ) → o ≡ refused m p → Judged o end new (Refused m p)
 judged-refused o end new m p e = subst (λ (x : Result Term). Judged x end new (Refused m p)) (sym e) (record { answer = refl; front = tt })

@@ -17,7 +17,7 @@ use Rattle.logic.proofs.Results.{true-both, not-ok, ok-inj, bound, bind-is}
 use Rattle.logic.proofs.Stopped.{stop}
 use Rattle.typing.specs.Check.{Constants-of}
 use Rattle.signature.specs.Listing.{Read-as}
-use Rattle.signature.proofs.Accepted.{signature-number, Constants-read}
+use Rattle.signature.proofs.Accepted.{list-refused, Constants-read}
 use Rattle.signature.specs.declared.list.Listed.{Listed}
 use Rattle.signature.specs.declared.list.Listed.the-variants.{Bad}
 use Rattle.records.specs.Answers.{record-count, contents-answer}
@@ -90,11 +90,7 @@ signs-refused : (sig table : List ℕ) (n m p : ℕ) → signed sig n ≡ refuse
 signs-refused sig table n m p e = record { answer = sym (stop _ e); constants = λ Σ f. absurd (not-ok (sym e ∙ f)) }
 
 pub signature-bad : (sig table : List ℕ) (n p : ℕ) (r : Listed) → Read-as (signature sig) sig table r → r ≡ Bad p → Signed-as (signed sig n) sig table (Fault bad-signature p)
-signature-bad sig table n p r R q = signs-refused sig table n bad-signature p (stop _ (go (signature sig) refl (subst (Read-as (signature sig) sig table) q R)))
-  where
-    go : (x : Result (List Term)) → signature sig ≡ x → Read-as x sig table (Bad p) → x ≡ refused bad-signature p
-    go (ok Σ) e (f, c) = absurd (clash (cc))
-    go (refused m p′) e f = let h = signature-number sig e in cc
+signature-bad sig table n p r R q = signs-refused sig table n bad-signature p (stop _ (list-refused sig table p r R q))
 
 module _ (sig table : List ℕ) (n count : ℕ) (C : Constants-read sig table count) where
   signed-is : (b : Bool) → b ≡ operations-test (C .Σ) n → signed sig n ≡ (require b bad-number 0 >> ok (C .Σ))
