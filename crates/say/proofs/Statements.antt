@@ -17,7 +17,8 @@ use Rattle.logic.proofs.Check.{check-statement-right}
 use Rattle.words.specs.Place.{Is}
 use Rattle.rules.specs.declared.derivation.Verdict.{Verdict}
 use Rattle.rules.specs.declared.derivation.Verdict.the-variants.{Passed, Fault as Refusal}
-use Rattle.typing.specs.Check.{verdict-of}
+use Rattle.rules.specs.Form.{verdict-answer}
+use Rattle.typing.specs.Check.{without-value}
 use Rattle.typing.proofs.Verdicts.{fault-told, passed-told}
 use Rattle.records.specs.Answers.{Room, unheld-answer}
 use Rattle.records.specs.declared.search.Unheld.{Unheld}
@@ -77,7 +78,7 @@ pub record Statement-so (Σ : List Term) (a : ℕ) (ws : List ℕ) : Type 0 wher
   pub term-is : Is ws term
   pub short : length ws ≤ most-words
 
-pub statement-so : (Σ : List Term) → Signature Σ → (a : ℕ) (ws : List ℕ) (r : Verdict) → r ≡ verdict-of (check-statement Σ a ws) → r ≡ Passed → Statement-so Σ a ws
+pub statement-so : (Σ : List Term) → Signature Σ → (a : ℕ) (ws : List ℕ) (r : Verdict) → verdict-answer r ≡ without-value (check-statement Σ a ws) → r ≡ Passed → Statement-so Σ a ws
 statement-so Σ sig a ws r e q =
     let (t, f) = passed-told (check-statement Σ a ws) r e q in
     let W = check-statement-right Σ sig ws a t .0 f .term in
@@ -103,7 +104,7 @@ module _ (l : Lent) (reg table ws : List ℕ) (a : ℕ) (r : Ready) (P : Prepare
       pub by-desk : a ≡ 0 → refused desk-says 0 ≡ say-call l reg a ws
       by-desk e = sym (so .is ∙ ap (λ (b : Bool). numbered b (eqb a 0)) (lt-ltb a payloads h) ∙ ap (numbered true) (eq-eqb a 0 e))
 
-      module _ (n : a ≡ 0 → ⊥) (d : Verdict) (e : d ≡ verdict-of (check-statement (so .Σ) a ws)) where
+      module _ (n : a ≡ 0 → ⊥) (d : Verdict) (e : verdict-answer d ≡ without-value (check-statement (so .Σ) a ws)) where
         numbers-right : say-call l reg a ws ≡ behind (check-statement (so .Σ) a ws)
         numbers-right = so .is ∙ ap (λ (b : Bool). numbered b (eqb a 0)) (lt-ltb a payloads h) ∙ ap (numbered true) (ne-eqb a 0 n)
 
