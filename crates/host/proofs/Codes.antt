@@ -9,12 +9,13 @@ use lib.Seq.{length-take-le}
 use Rattle.logic.specs.Refusals.{past-last-record}
 use Rattle.logic.specs.Result.{Result, ok, refused, number-of, place-of}
 use Rattle.logic.specs.Term.{Term}
-use Rattle.logic.proofs.Basics.{clash}
 use Rattle.rules.specs.declared.derivation.Derivation.{Derivation}
 use Rattle.rules.specs.declared.derivation.Derivation.the-variants.{Typed, Refused}
 use Rattle.rules.specs.declared.derivation.Verdict.{Verdict}
 use Rattle.rules.specs.declared.derivation.Verdict.the-variants.{Passed, Fault}
-use Rattle.typing.specs.Check.{Judged, verdict-of}
+use Rattle.rules.specs.Form.{verdict-answer}
+use Rattle.typing.specs.Check.{Judged, without-value}
+use Rattle.typing.proofs.Verdicts.{passed-told}
 use Rattle.register.specs.Calls.{Lent, open-call, say-call, request-call, check-call}
 use Rattle.register.proofs.Bounds.{Number, open-bound, say-bound, request-bound, check-bound}
 use Rattle.calls.proofs.Checks.{words-within, handed-type, handed-nothing}
@@ -45,20 +46,15 @@ refused-code o m p code e c = c ∙ sym (ap code-of e)
 
 -- ---- open and request
 
-module _ {X : Type 0} (o : Result X) (r : Verdict) (v : r ≡ verdict-of o) where
-  pub passed-code : r ≡ Passed → 0 ≡ code-of o
-  passed-code q = go o v
-    where
-      go : (x : Result X) → r ≡ verdict-of x → 0 ≡ code-of x
-      go (ok y) e = refl
-      go (refused m p) e = absurd (clash (cc))
+pub opened-code : {X : Type 0} (o : Result X) (r : Verdict) → verdict-answer r ≡ without-value o → r ≡ Passed → 0 ≡ code-of o
+opened-code o r v q = let (x, e) = passed-told o r v q in ap code-of (sym e)
 
-  pub fault-is : (m p : ℕ) → r ≡ Fault m p → o ≡ refused m p
-  fault-is m p q = go o v
-    where
-      go : (x : Result X) → r ≡ verdict-of x → x ≡ refused m p
-      go (ok y) e = absurd (clash (cc))
-      go (refused m′ p′) e = cc
+module _ (o : Result (Unit {0})) (r : Verdict) (v : verdict-answer r ≡ o) where
+  pub granted-code : r ≡ Passed → 0 ≡ code-of o
+  granted-code q = ap code-of (sym (ap verdict-answer q) ∙ v)
+
+  pub not-granted : (m p : ℕ) → r ≡ Fault m p → o ≡ refused m p
+  not-granted m p q = sym v ∙ ap verdict-answer q
 
 pub open-fits : (l : Lent) (reg rules : List ℕ) (m p : ℕ) → length (l .sig) + length rules < place-limit → open-call l reg rules ≡ refused m p → Fits m p
 open-fits l reg rules m p h e = let (n, q) = open-bound l reg rules e in omega arith
