@@ -28,7 +28,10 @@ enum-known-verdict : tie.Need-enum-known-verdict
 enum-known-verdict c = search needs
 
 code-requires : tie.Need-code-requires
-code-requires c κs = let s = c .before .before .before .before .before .before .before .before .before .before .before .before .before .before in let v = c .before .before .before .before .before .before .before .«open» in open-fits (lent-here s) (s .args .register .now) (s .args .rules .now) _ _ (omega (arith, s .good)) (fault-told (called s) (v .result) _ _ (v .ensures .answer) (c .before .verdict .given .1))
+code-requires c κs =
+    let s = c .before .before .before .before .before .before .before .before .before .before .before .before .before .before in
+    let v = c .before .before .before .before .before .before .before .«open» in
+    open-fits (lent-here s) (s .args .register .now) (s .args .rules .now) _ _ (omega (arith, s .good)) (fault-told (called s) (v .result) _ _ (v .ensures .answer) (c .before .verdict .given .1))
 
 same-length : tie.Need-same-length
 same-length c = search needs
@@ -46,7 +49,10 @@ same-length-4 : tie.Need-same-length-4
 same-length-4 c = search needs
 
 returns-2 : tie.Need-returns-2
-returns-2 c = let s = c .before .before .before .before .before .before .before .before .before .before .before .before .before .before .before in let v = c .before .before .before .before .before .before .before .before .«open» in record { answer = refused-code (called s) _ _ (c .code .result) (fault-told (called s) (v .result) _ _ (v .ensures .answer) (c .before .before .verdict .given .1)) (c .code .ensures); register = v .ensures .register }
+returns-2 c =
+    let s = c .before .before .before .before .before .before .before .before .before .before .before .before .before .before .before in
+    let v = c .before .before .before .before .before .before .before .before .«open» in
+    record { answer = refused-code (called s) _ _ (c .code .result) (fault-told (called s) (v .result) _ _ (v .ensures .answer) (c .before .before .verdict .given .1)) (c .code .ensures); register = v .ensures .register }
 
 pub aura0-open-spec : {M : Type 1} → statement M
 aura0-open-spec =

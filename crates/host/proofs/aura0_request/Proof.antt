@@ -25,7 +25,11 @@ enum-known-verdict : tie.Need-enum-known-verdict
 enum-known-verdict c = search needs
 
 code-requires : tie.Need-code-requires
-code-requires c κs = let s = c .before .before .before .before .before .before .before .before .before .before .before .before .before .before in let a = s .args in let v = c .before .before .before .before .before .before .before .request in request-fits (lent-here s) (a .register .now) (a .operation) (a .extract) (a .delivery) (a .proof .now) _ _ (omega (arith, s .good)) (not-granted (called s) (v .result) (v .ensures .answer) _ _ (c .before .verdict .given .1))
+code-requires c κs =
+    let s = c .before .before .before .before .before .before .before .before .before .before .before .before .before .before in
+    let a = s .args in
+    let v = c .before .before .before .before .before .before .before .request in
+    request-fits (lent-here s) (a .register .now) (a .operation) (a .extract) (a .delivery) (a .proof .now) _ _ (omega (arith, s .good)) (not-granted (called s) (v .result) (v .ensures .answer) _ _ (c .before .verdict .given .1))
 
 same-length : tie.Need-same-length
 same-length c = search needs
@@ -43,7 +47,10 @@ same-length-4 : tie.Need-same-length-4
 same-length-4 c = search needs
 
 returns-2 : tie.Need-returns-2
-returns-2 c = let s = c .before .before .before .before .before .before .before .before .before .before .before .before .before .before .before in let v = c .before .before .before .before .before .before .before .before .request in record { answer = refused-code (called s) _ _ (c .code .result) (not-granted (called s) (v .result) (v .ensures .answer) _ _ (c .before .before .verdict .given .1)) (c .code .ensures); register = v .ensures .register }
+returns-2 c =
+    let s = c .before .before .before .before .before .before .before .before .before .before .before .before .before .before .before in
+    let v = c .before .before .before .before .before .before .before .before .request in
+    record { answer = refused-code (called s) _ _ (c .code .result) (not-granted (called s) (v .result) (v .ensures .answer) _ _ (c .before .before .verdict .given .1)) (c .code .ensures); register = v .ensures .register }
 
 pub aura0-request-spec : {M : Type 1} → statement M
 aura0-request-spec =
