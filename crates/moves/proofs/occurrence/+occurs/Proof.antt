@@ -110,7 +110,8 @@ enum-told t c = search needs
 returns-5 : (t : ℕ) → lts.Need-returns-5 (calls t) (given t) occurs.Post
 returns-5 t c =
     let s = c .before .before .before .before .before .before .before .before .before in
-    λ u h. occurs-first (s .args .words .now) (s .args .at) (s .args .c) (c .before .before .before .before .before .before .kind .result) _ (c .before .before .before .before .before .if1 .left) (c .before .before .before .before .if2 .left) (c .before .before .before .if4 .left) (c .before .before .occurs .ensures) (ap occurrence-answer (c .enum-told .given .1)) u h (kind-known t (c .before .before .before .before .before .before) u h)
+    λ u h. occurs-first (s .args .words .now) (s .args .at) (s .args .c) (c .before .before .before .before .before .before .kind .result) _ (c .before .before .before .before .before .if1 .left) (c .before .before .before .before .if2 .left) (c .before .before .before .if4 .left) (c .before .before .occurs .ensures)
+    (ap occurrence-answer (c .enum-told .given .1)) u h (kind-known t (c .before .before .before .before .before .before) u h)
 
 sub-occurs : (t : ℕ) → lts.Need-sub-occurs (calls t) (given t) occurs.Post
 sub-occurs t c = let n = node t (c .before .before .before .before) in omega arith
@@ -129,7 +130,8 @@ occurs-requires-2 t c κs =
 returns-6 : (t : ℕ) → lts.Need-returns-6 (calls t) (given t) occurs.Post
 returns-6 t c =
     let s = c .before .before .before .before .before .before .before .before .before .before .before in
-    λ u h. occurs-second (s .args .words .now) (s .args .at) (s .args .c) (c .before .before .before .before .before .before .before .before .kind .result) _ _ _ (c .before .before .before .before .before .before .before .if1 .left) (c .before .before .before .before .before .before .if2 .left) (c .before .before .before .before .before .if4 .left) (c .before .before .before .before .occurs .ensures) (ap occurrence-answer (c .before .before .first .given .1)) (c .occurs2 .ensures) u h (kind-known t (c .before .before .before .before .before .before .before .before) u h)
+    λ u h. occurs-second (s .args .words .now) (s .args .at) (s .args .c) (c .before .before .before .before .before .before .before .before .kind .result) _ _ _ (c .before .before .before .before .before .before .before .if1 .left) (c .before .before .before .before .before .before .if2 .left) (c .before .before .before .before .before .if4 .left)
+    (c .before .before .before .before .occurs .ensures) (ap occurrence-answer (c .before .before .first .given .1)) (c .occurs2 .ensures) u h (kind-known t (c .before .before .before .before .before .before .before .before) u h)
 
 pub +occurs-spec : {M : Type 1} → statement M
 +occurs-spec = close μ-occurs λ t. lts.spec (calls t)

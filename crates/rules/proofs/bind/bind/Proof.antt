@@ -146,7 +146,9 @@ same-length-2 c = search needs
 returns-3 : tie.Need-returns-3
 returns-3 c =
     let a = c .before .before .before .before .before .before .before .before .before .before .before .before .before .args in
-    λ p q B j. let i = said-is (a .ws .now) (a .used) (a .at) (a .m) (a .end) p q B j in bind-present (a .ws .now) (a .used) (a .at) (a .m) (a .end) p q B j _ i (agree (c .before .before .before .before)) _ (c .before .before .occurs .ensures _ (right-at (a .ws .now) (a .used) (a .at) (a .m) (a .end) p q B j _ i (agree (c .before .before .before .before)))) (ap occurrence-answer (c .enum-told .given .1))
+    let g = agree (c .before .before .before .before) in
+    λ p q B j. let i = said-is (a .ws .now) (a .used) (a .at) (a .m) (a .end) p q B j in bind-present (a .ws .now) (a .used) (a .at) (a .m) (a .end) p q B j _ i g _
+    (c .before .before .occurs .ensures _ (right-at (a .ws .now) (a .used) (a .at) (a .m) (a .end) p q B j _ i g)) (ap occurrence-answer (c .enum-told .given .1))
 
 same-length-3 : tie.Need-same-length-3
 same-length-3 c = search needs
@@ -155,7 +157,10 @@ returns-4 : tie.Need-returns-4
 returns-4 c =
     let s = c .before .before .before .before .before .before .before .before .before .before .before .before .before .before .before .before .before in
     let a = s .args in
-    λ p q B j. let i = said-is (a .ws .now) (a .used) (a .at) (a .m) (a .end) p q B j in bind-absent (a .ws .now) (a .used) (a .at) (a .m) (a .end) p q B j _ i (agree (c .before .before .before .before .before .before .before .before)) _ (c .before .before .before .before .before .before .occurs .ensures _ (right-at (a .ws .now) (a .used) (a .at) (a .m) (a .end) p q B j _ i (agree (c .before .before .before .before .before .before .before .before)))) _ _ _ (ap occurrence-answer (c .before .before .before .before .enum-told2 .given .1)) (s .pre .small) (c .before .before .shift-within .ensures B (said-at (a .ws .now) (a .used) (a .at) (a .m) (a .end) p q B j _ i (agree (c .before .before .before .before .before .before .before .before))))
+    let g = agree (c .before .before .before .before .before .before .before .before) in
+    λ p q B j. let i = said-is (a .ws .now) (a .used) (a .at) (a .m) (a .end) p q B j in bind-absent (a .ws .now) (a .used) (a .at) (a .m) (a .end) p q B j _ i g _
+    (c .before .before .before .before .before .before .occurs .ensures _ (right-at (a .ws .now) (a .used) (a .at) (a .m) (a .end) p q B j _ i g)) _ _ _ (ap occurrence-answer (c .before .before .before .before .enum-told2 .given .1)) (s .pre .small)
+    (c .before .before .shift-within .ensures B (said-at (a .ws .now) (a .used) (a .at) (a .m) (a .end) p q B j _ i g))
 
 pub bind-spec : {M : Type 1} → statement M
 bind-spec =

@@ -39,7 +39,10 @@ enum-known-whole : tie.Need-enum-known-whole
 enum-known-whole c = search needs
 
 returns-3 : tie.Need-returns-3
-returns-3 c = let s = c .before .before .before .before .before .before .before .before .before .before in λ Σ C. malformed-term Σ (s .args .most) (s .args .deep) (s .args .term .now) (s .args .ws .now) (c .before .before .before .before .before .if1 .left) (c .before .before .before .before .if2 .left) _ (sym (c .before .before .before .read-whole .ensures) ∙ ap parse-answer (c .before .whole .given .1))
+returns-3 c =
+    let s = c .before .before .before .before .before .before .before .before .before .before in
+    λ Σ C. malformed-term Σ (s .args .most) (s .args .deep) (s .args .term .now) (s .args .ws .now) (c .before .before .before .before .before .if1 .left) (c .before .before .before .before .if2 .left)
+    _ (sym (c .before .before .before .read-whole .ensures) ∙ ap parse-answer (c .before .whole .given .1))
 
 enum-told : tie.Need-enum-told
 enum-told c = search needs
@@ -51,7 +54,11 @@ enum-known-nesting : tie.Need-enum-known-nesting
 enum-known-nesting c = search needs
 
 returns-4 : tie.Need-returns-4
-returns-4 c = let s = c .before .before .before .before .before .before .before .before .before .before .before .before .before in let T = read (c .before .before .before .before) in λ Σ C. deep-term Σ (s .args .most) (s .args .deep) (s .args .term .now) (s .args .ws .now) (c .before .before .before .before .before .before .before .before .if1 .left) (c .before .before .before .before .before .before .before .if2 .left) (T .term) (T .read) _ (sym (c .before .before .before .nested-whole .ensures (T .term) (T .is)) ∙ ap nesting-answer (c .before .nesting .given .1))
+returns-4 c =
+    let s = c .before .before .before .before .before .before .before .before .before .before .before .before .before in
+    let T = read (c .before .before .before .before) in
+    λ Σ C. deep-term Σ (s .args .most) (s .args .deep) (s .args .term .now) (s .args .ws .now) (c .before .before .before .before .before .before .before .before .if1 .left) (c .before .before .before .before .before .before .before .if2 .left) (T .term) (T .read)
+    _ (sym (c .before .before .before .nested-whole .ensures (T .term) (T .is)) ∙ ap nesting-answer (c .before .nesting .given .1))
 
 enum-told-2 : tie.Need-enum-told-2
 enum-told-2 c = search needs
