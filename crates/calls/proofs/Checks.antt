@@ -8,30 +8,32 @@ use lib.ListN.{length, take, length-take}
 use lib.Seq.{take-at}
 use Rattle.logic.specs.Limits.{least-workspace, most-words, most-nesting}
 use Rattle.logic.specs.Refusals.{workspace-short, bad-number, not-held}
-use Rattle.logic.specs.Result.{Result, ok, refused, _>>=_, _>>_, require, nowhere}
+use Rattle.logic.specs.Result.{Result, ok, refused, _>>=_, _>>_, require}
 use Rattle.logic.specs.Term.{Term, encode, size}
 use Rattle.logic.specs.SignatureList.{signature, operations-test}
 use Rattle.logic.specs.Infer.{infer}
-use Rattle.logic.specs.Reading.{first-unheld}
 use Rattle.logic.specs.Check.{term-of, check-term, Checked}
 use Rattle.logic.proofs.Basics.{clash}
+use Rattle.logic.proofs.Results.{ok-inj, bound, bind-is}
+use Rattle.logic.proofs.Stopped.{stopped, not-refused, stop}
 use Rattle.logic.proofs.Words.{encode-size}
 use Rattle.logic.proofs.Check.{term-of-right}
 use Rattle.words.specs.Place.{Is}
 use Rattle.words.specs.Typed.{TypeAt}
 use Rattle.words.proofs.Places.{end-of}
-use Rattle.rules.specs.Form.{answer-of, Front}
+use Rattle.rules.specs.Form.{Front}
+use Rattle.rules.proofs.Fronts.{typed-by, refused-by}
 use Rattle.rules.specs.declared.derivation.Derivation.{Derivation}
 use Rattle.rules.specs.declared.derivation.Derivation.the-variants.{Typed, Refused}
 use Rattle.typing.specs.Check.{Constants-of, typed-term, Judged}
-use Rattle.records.specs.Answers.{unheldOf}
+use Rattle.records.specs.Answers.{unheld-answer}
 use Rattle.records.specs.declared.search.Unheld.{Unheld}
 use Rattle.records.specs.declared.search.Unheld.the-variants.{Nowhere, At}
-use Rattle.records.proofs.Told.{unheld-told, held-told}
 use Rattle.register.specs.Records.{Record, used, register-records, held}
-use Rattle.register.specs.Calls.{Lent, View, view, length-test, shared, on-register, Holding, signs-held, check-own, check-call}
+use Rattle.register.specs.Calls.{Lent, View, view, length-test, shared, on-register, signs-held, check-own, check-call}
 use Rattle.calls.specs.Answers.{Handed}
-use Rattle.calls.specs.Shared.{prepared, Lent-so, Prepared-as}
+use Rattle.calls.specs.Shared.{ready-answer, prepared, constants-found, Lent-so, Prepared-as}
+use Rattle.calls.proofs.SharedTests.{bind-bind}
 use Rattle.calls.specs.declared.shared.Ready.{Ready}
 use Rattle.calls.specs.declared.shared.Ready.the-variants.{Constants, Fault}
 
@@ -41,10 +43,6 @@ then-bind : {X Y Z : Type 0} (a : Result X) (r : Result Y) (g : Y → Result Z) 
 then-bind (ok x) r g = refl
 then-bind (refused m p) r g = refl
 
-bind-bind : {X Y Z : Type 0} (r : Result X) (f : X → Result Y) (g : Y → Result Z) → ((r >>= f) >>= g) ≡ (r >>= λ x. f x >>= g)
-bind-bind (ok x) f g = refl
-bind-bind (refused m p) f g = refl
-
 pub own-tests : {Y : Type 0} (l : Lent) (len words : ℕ) (records : Result (List Record)) (own : View → Result Y) → shared l len words records own ≡ (shared l len words records ok >>= own)
 own-tests l len words records own =
     sym (then-bind (require (leb least-workspace (l .workspace)) workspace-short 0) _ own ∙ ap (λ x. require (leb least-workspace (l .workspace)) workspace-short 0 >> x)
@@ -53,14 +51,14 @@ own-tests l len words records own =
     bind-bind (signature (l .sig)) _ own ∙ ap (λ k. signature (l .sig) >>= k) (fun-ext λ Σ.
     then-bind (require (operations-test Σ (l .n)) bad-number 0) (ok (view l len words rs Σ)) own)))))
 
+-- what an answer that refuses tells
+pub not-ready : (o : Result View) (r : Ready) → ready-answer r ≡ constants-found o → (m p : ℕ) → r ≡ Fault m p → o ≡ refused m p
+not-ready o r e m p q = stopped o _ (sym e ∙ ap ready-answer q) (λ f. f) (λ v f g. absurd (not-refused g))
+
 module _ {Y : Type 0} (l : Lent) (reg table : List ℕ) (r : Ready) (own : View → Result Y) (P : Prepared-as (prepared l reg) l reg table r) where
   -- the shared tests refused
   pub not-prepared : (m p : ℕ) → r ≡ Fault m p → on-register l reg own ≡ refused m p
-  not-prepared m p q = own-tests l (length reg) (used reg) (register-records reg) own ∙ go (prepared l reg) P
-    where
-      go : (x : Result View) → Prepared-as x l reg table r → (x >>= own) ≡ refused m p
-      go (ok v) R = let h = R .lent-so .answer in absurd (clash (cc))
-      go (refused m′ p′) e = cc
+  not-prepared m p q = own-tests l (length reg) (used reg) (register-records reg) own ∙ stop own (not-ready (prepared l reg) r (P .answer) m p q)
 
   -- or found a register that is not broken and a signature that is accepted
   pub record Passed-so (count : ℕ) : Type 0 where
@@ -69,28 +67,23 @@ module _ {Y : Type 0} (l : Lent) (reg table : List ℕ) (r : Ready) (own : View 
     pub Σ : List Term
     pub counted : count ≡ length Σ
     pub constants : Constants-of (l .sig) (take count table) Σ
-    pub lent-so : Lent-so l (length reg) (used reg) rs table (view l (length reg) (used reg) rs Σ) r
+    pub lent-so : Lent-so l (length reg) (used reg) rs table (view l (length reg) (used reg) rs Σ)
     pub is : on-register l reg own ≡ own (view l (length reg) (used reg) rs Σ)
 
   pub passed-so : (count : ℕ) → r ≡ Constants count → Passed-so count
-  passed-so count q = go (prepared l reg) refl P
-    where
-      go : (x : Result View) → prepared l reg ≡ x → Prepared-as x l reg table r → Passed-so count
-      go (ok v) e R =
-          let S = R .lent-so in
-          let a = S .answer in
-          let n : count ≡ length (S .Σ) = cc in
-          let w : View = view l (length reg) (used reg) (R .rs) (S .Σ) in
-          record {
-            rs = R .rs;
-            reads = R .reads;
-            Σ = S .Σ;
-            counted = n;
-            constants = subst (λ (i : ℕ). Constants-of (l .sig) (take i table) (S .Σ)) (sym n) (S .constants);
-            lent-so = record { Σ = S .Σ; is = refl; answer = S .answer; constants = S .constants; workspace = S .workspace; not-shorter = S .not-shorter; not-longer = S .not-longer; operations = S .operations };
-            is = own-tests l (length reg) (used reg) (register-records reg) own ∙ ap (λ x. x >>= own) e ∙ ap own (S .is);
-          }
-      go (refused m p) e f = absurd (clash (cc))
+  passed-so count q = bound (prepared l reg) _ (sym (P .answer) ∙ ap ready-answer q) λ v e n.
+      let R = P .passed v e in
+      let S = R .lent-so in
+      let c : count ≡ length (v .Σ) = sym (ok-inj n) in
+      record {
+        rs = R .rs;
+        reads = R .reads;
+        Σ = v .Σ;
+        counted = c;
+        constants = subst (λ (i : ℕ). Constants-of (l .sig) (take i table) (v .Σ)) (sym c) (S .constants);
+        lent-so = subst (Lent-so l (length reg) (used reg) (R .rs) table) (S .is) S;
+        is = own-tests l (length reg) (used reg) (register-records reg) own ∙ bind-is own e (ap own (S .is));
+      }
 
 -- ---- a term's type
 
@@ -135,29 +128,13 @@ pub record Type-found (o : Result Term) (new : List ℕ) (words : ℕ) : Type 0 
   pub front : TypeAt new 0 type
 
 pub type-found : (o : Result Term) (end : ℕ) (new : List ℕ) (r : Derivation) (words e : ℕ) → Judged o end new r → r ≡ Typed words e → Type-found o new words
-type-found o end new r words e J q = go o refl (sym q ∙ J .answer) (J .front)
-  where
-    go : (x : Result Term) → o ≡ x → Typed words e ≡ answer-of x end → Front x new → Type-found o new words
-    go (ok A) f g h = record { type = A; is = f; words-are = cc; front = h }
-    go (refused m p) f g h = absurd (clash (cc))
+type-found o end new r words e J q = typed-by o end (J .answer) words e q λ A i w l. record { type = A; is = i; words-are = w; front = subst (λ (x : Result Term). Front x new) i (J .front) }
 
 pub type-refused : (o : Result Term) (end : ℕ) (new : List ℕ) (r : Derivation) (m p : ℕ) → Judged o end new r → r ≡ Refused m p → o ≡ refused m p
-type-refused o end new r m p J q = go o (sym q ∙ J .answer)
-  where
-    go : (x : Result Term) → Refused m p ≡ answer-of x end → x ≡ refused m p
-    go (ok A) g = absurd (clash (cc))
-    go (refused m′ p′) g = cc
+type-refused o end new r m p J q = refused-by o end (J .answer) m p q
 
 judged-refused : (o : Result Term) (end : ℕ) (new : List ℕ) (m p : ℕ) → o ≡ refused m p → Judged o end new (Refused m p)
 judged-refused o end new m p e = subst (λ (x : Result Term). Judged x end new (Refused m p)) (sym e) (record { answer = refl; front = tt })
-
--- test 14
-
-pub unheld-found : (h : Holding) (t : Term) (u : Unheld) (p : ℕ) → u ≡ unheldOf (first-unheld (λ a q. h a (encode q)) 0 t) → u ≡ At p → signs-held h t ≡ refused not-held p
-unheld-found h t u p e q = ap (nowhere not-held) (unheld-told (first-unheld (λ a q. h a (encode q)) 0 t) u p e q)
-
-pub all-held : (h : Holding) (t : Term) (u : Unheld) → u ≡ unheldOf (first-unheld (λ a q. h a (encode q)) 0 t) → u ≡ Nowhere → signs-held h t ≡ ok tt
-all-held h t u e q = ap (nowhere not-held) (held-told (first-unheld (λ a q. h a (encode q)) 0 t) u e q)
 
 -- ---- check
 
@@ -181,12 +158,12 @@ module _ (l : Lent) (reg table term : List ℕ) (r : Ready) (P : Prepared-as (pr
       check-is : check-call l reg term ≡ (signs-held (held (so .rs)) (term-here .term) >> ok (type-here .type))
       check-is = so .is ∙ ap (λ x. x >>= λ c. signs-held (held (so .rs)) (c .term) >> ok (c .type)) (term-here .is)
 
-      pub check-unheld : (u : Unheld) (p : ℕ) → u ≡ unheldOf (first-unheld (λ a q. held (so .rs) a (encode q)) 0 (term-here .term)) → u ≡ At p → Judged (check-call l reg term) (length term) new (Refused not-held p)
-      check-unheld u p g h = judged-refused _ _ new not-held p (check-is ∙ ap (λ x. x >> ok (type-here .type)) (unheld-found (held (so .rs)) (term-here .term) u p g h))
+      pub check-unheld : (u : Unheld) (p : ℕ) → unheld-answer u ≡ signs-held (held (so .rs)) (term-here .term) → u ≡ At p → Judged (check-call l reg term) (length term) new (Refused not-held p)
+      check-unheld u p g h = judged-refused _ _ new not-held p (check-is ∙ ap (λ x. x >> ok (type-here .type)) (sym g ∙ ap unheld-answer h))
 
-      pub check-held : (u : Unheld) → u ≡ unheldOf (first-unheld (λ a q. held (so .rs) a (encode q)) 0 (term-here .term)) → u ≡ Nowhere → Judged (check-call l reg term) (length term) new d
+      pub check-held : (u : Unheld) → unheld-answer u ≡ signs-held (held (so .rs)) (term-here .term) → u ≡ Nowhere → Judged (check-call l reg term) (length term) new d
       check-held u g h =
-          let i : typed-term (so .Σ) most-words most-nesting term ≡ check-call l reg term = type-here .is ∙ sym (check-is ∙ ap (λ x. x >> ok (type-here .type)) (all-held (held (so .rs)) (term-here .term) u g h)) in
+          let i : typed-term (so .Σ) most-words most-nesting term ≡ check-call l reg term = type-here .is ∙ sym (check-is ∙ ap (λ x. x >> ok (type-here .type)) (sym g ∙ ap unheld-answer h)) in
           subst (λ (x : Result Term). Judged x (length term) new d) i J
 
 -- the table's part that is lent

@@ -1,31 +1,32 @@
 -- The tests that calls share.
-use Prim.Native.Nat.{ℕ, _-_, _≤_, _<_}
+use Prim.Native.Nat.{ℕ, _≤_, _<_}
 use native.Mathlib.Omega.{arith}
 use mathlib.Core.Path.{_≡_, refl, sym, ap, subst, _∙_}
 use mathlib.Core.Bool.{Bool, true, false, _&&_}
-use mathlib.Core.Option.{Option, some, none}
 use mathlib.Core.List.{List, []}
-use lib.Dec.{leb, eqb}
-use lib.ListN.{length, take, drop}
+use lib.Dec.{leb}
+use lib.ListN.{length, take}
 use borrow.Author.Tests.{le-leb, lt-leb, leb-true}
 use Rattle.logic.specs.Limits.{least-workspace, least-register, most-register, most-operations}
 use Rattle.logic.specs.Refusals.{workspace-short, register-length, register-broken, bad-signature, bad-number}
-use Rattle.logic.specs.Result.{Result, ok, refused, _>>=_, _>>_, require, known, number-of}
+use Rattle.logic.specs.Result.{Result, ok, refused, _>>=_, _>>_, require, number-of}
 use Rattle.logic.specs.Term.{Term}
-use Rattle.logic.specs.SignatureList.{constants, signature, operations, operations-test}
+use Rattle.logic.specs.SignatureList.{signature, operations, operations-test}
 use Rattle.logic.proofs.Basics.{clash}
-use Rattle.logic.proofs.Results.{true-both}
+use Rattle.logic.proofs.Results.{true-both, not-ok, ok-inj, bound, bind-is}
+use Rattle.logic.proofs.Stopped.{stop}
 use Rattle.typing.specs.Check.{Constants-of}
 use Rattle.signature.specs.Listing.{Read-as}
-use Rattle.signature.proofs.Accepted.{signature-number, Constants-read}
+use Rattle.signature.proofs.Accepted.{list-refused, Constants-read}
 use Rattle.signature.specs.declared.list.Listed.{Listed}
 use Rattle.signature.specs.declared.list.Listed.the-variants.{Bad}
-use Rattle.records.specs.Answers.{contentsOf}
+use Rattle.records.specs.Answers.{record-count, contents-answer}
 use Rattle.records.specs.declared.walk.Contents.{Contents}
 use Rattle.records.specs.declared.walk.Contents.the-variants.{Broken, Whole}
-use Rattle.register.specs.Records.{Record, header, used, count, records, register-records}
+use Rattle.records.proofs.Stands.{contents-broken, contents-whole}
+use Rattle.register.specs.Records.{Record, header, used, register-records}
 use Rattle.register.specs.Calls.{Lent, View, view, length-test, shared}
-use Rattle.calls.specs.Shared.{lengths-test, signed, Signed-as, prepared, opened, Lent-so, Prepared-as, Opened-as}
+use Rattle.calls.specs.Shared.{lengths-test, signed, ready-answer, Signed-as, constants-found, prepared, opened, Lent-so, Prepared-as, Opened-as}
 use Rattle.calls.specs.declared.shared.Ready.{Ready}
 use Rattle.calls.specs.declared.shared.Ready.the-variants.{Constants, Fault}
 
@@ -84,26 +85,25 @@ lengths-refused w r number e n = go (leb least-workspace w) (leb least-register 
 
 -- ---- tests 4 and 5
 
+-- they refuse
+signs-refused : (sig table : List ℕ) (n m p : ℕ) → signed sig n ≡ refused m p → Signed-as (signed sig n) sig table (Fault m p)
+signs-refused sig table n m p e = record { answer = sym (stop _ e); constants = λ Σ f. absurd (not-ok (sym e ∙ f)) }
+
 pub signature-bad : (sig table : List ℕ) (n p : ℕ) (r : Listed) → Read-as (signature sig) sig table r → r ≡ Bad p → Signed-as (signed sig n) sig table (Fault bad-signature p)
-signature-bad sig table n p r R q = go (signature sig) refl (subst (Read-as (signature sig) sig table) q R)
-  where
-    go : (x : Result (List Term)) → signature sig ≡ x → Read-as x sig table (Bad p) → Signed-as (x >>= λ Σ. require (operations-test Σ n) bad-number 0 >> ok Σ) sig table (Fault bad-signature p)
-    go (ok Σ) e (f, c) = absurd (clash (cc))
-    go (refused m p′) e f = let h = signature-number sig e in cc
+signature-bad sig table n p r R q = signs-refused sig table n bad-signature p (stop _ (list-refused sig table p r R q))
 
 module _ (sig table : List ℕ) (n count : ℕ) (C : Constants-read sig table count) where
-  signed-is : signed sig n ≡ (require (operations-test (C .Σ) n) bad-number 0 >> ok (C .Σ))
-  signed-is = ap (λ x. x >>= λ Σ. require (operations-test Σ n) bad-number 0 >> ok Σ) (C .is)
+  signed-is : (b : Bool) → b ≡ operations-test (C .Σ) n → signed sig n ≡ (require b bad-number 0 >> ok (C .Σ))
+  signed-is b e = ap (λ x. x >>= λ Σ. require (operations-test Σ n) bad-number 0 >> ok Σ) (C .is) ∙ ap (λ (x : Bool). require x bad-number 0 >> ok (C .Σ)) (sym e)
 
   pub operations-fit : (b : Bool) → b ≡ operations-test (C .Σ) n → b ≡ true → Signed-as (signed sig n) sig table (Constants count)
   operations-fit b e q =
-      let h : signed sig n ≡ ok (C .Σ) = signed-is ∙ ap (λ (x : Bool). require x bad-number 0 >> ok (C .Σ)) (sym e ∙ q) in
-      subst (λ (x : Result (List Term)). Signed-as x sig table (Constants count)) (sym h) (ap Constants (C .counted), subst (λ (i : ℕ). Constants-of sig (take i table) (C .Σ)) (C .counted) (C .constants-are))
+      let h : signed sig n ≡ ok (C .Σ) = signed-is true (sym q ∙ e) in
+      let c = subst (λ (i : ℕ). Constants-of sig (take i table) (C .Σ)) (C .counted) (C .constants-are) in
+      record { answer = sym (bind-is _ h (ap ok (sym (C .counted)))); constants = λ Σ f. subst (λ (S : List Term). Constants-of sig (take (length S) table) S) (ok-inj (sym h ∙ f)) c }
 
   pub operations-unfit : (b : Bool) → b ≡ operations-test (C .Σ) n → b ≡ false → Signed-as (signed sig n) sig table (Fault bad-number 0)
-  operations-unfit b e q =
-      let h : signed sig n ≡ refused bad-number 0 = signed-is ∙ ap (λ (x : Bool). require x bad-number 0 >> ok (C .Σ)) (sym e ∙ q) in
-      subst (λ (x : Result (List Term)). Signed-as x sig table (Fault bad-number 0)) (sym h) refl
+  operations-unfit b e q = signs-refused sig table n bad-number 0 (signed-is false (sym q ∙ e))
 
 -- ---- all of them, before a call's own tests
 
@@ -158,55 +158,53 @@ few-operations sig n Σ e = go (signature sig) e
     go (ok Σ′) f = tests (leb 1 n) (leb n most-operations) (operations Σ′ n) Σ′ refl f
     go (refused m p) f = absurd (clash (cc))
 
+pub bind-bind : {X Y Z : Type 0} (r : Result X) (f : X → Result Y) (g : Y → Result Z) → ((r >>= f) >>= g) ≡ (r >>= λ x. f x >>= g)
+bind-bind (ok x) f g = refl
+bind-bind (refused m p) f g = refl
+
 -- the shared tests found what the table and the answer say
-lent-so : (l : Lent) (len words : ℕ) (rs : List Record) (table : List ℕ) (r : Ready) → Lengths (l .workspace) len → (Σ : List Term) → signed (l .sig) (l .n) ≡ ok Σ → Signed-as (ok Σ) (l .sig) table r → Lent-so l len words rs table (view l len words rs Σ) r
-lent-so l len words rs table r L Σ e (q, c) = record { Σ = Σ; is = refl; answer = q; constants = c; workspace = L .workspace-fits; not-shorter = L .not-shorter; not-longer = L .not-longer; operations = few-operations (l .sig) (l .n) Σ e }
+module _ (l : Lent) (len words : ℕ) (rs : List Record) (table : List ℕ) (r : Ready) (L : Lengths (l .workspace) len) (S : Signed-as (signed (l .sig) (l .n)) (l .sig) table r)
+    (o : Result View) (h : o ≡ (signed (l .sig) (l .n) >>= λ Σ. ok (view l len words rs Σ))) where
+  lent-answer : ready-answer r ≡ constants-found o
+  lent-answer = S .answer ∙ sym (ap constants-found h ∙ bind-bind (signed (l .sig) (l .n)) _ _)
 
-pub opened-as : (l : Lent) (len : ℕ) (table : List ℕ) (r : Ready) → Lengths (l .workspace) len → Signed-as (signed (l .sig) (l .n)) (l .sig) table r → Opened-as (opened l len) l len table r
-opened-as l len table r L S = subst (λ (x : Result View). Opened-as x l len table r) (sym (shared-signed l len header ok (ok []) [] (L .passed) refl)) (go (signed (l .sig) (l .n)) refl S)
-  where
-    go : (x : Result (List Term)) → signed (l .sig) (l .n) ≡ x → Signed-as x (l .sig) table r → Opened-as (x >>= λ Σ. ok (view l len header [] Σ)) l len table r
-    go (ok Σ) e s = lent-so l len header [] table r L Σ e s
-    go (refused m p) e s = s
+  lent-so : (v : View) → o ≡ ok v → Lent-so l len words rs table v
+  lent-so v e = bound (signed (l .sig) (l .n)) _ (sym h ∙ e) λ Σ s w. subst (Lent-so l len words rs table) (ok-inj w) (record {
+    is = refl;
+    constants = S .constants Σ s;
+    workspace = L .workspace-fits;
+    not-shorter = L .not-shorter;
+    not-longer = L .not-longer;
+    operations = few-operations (l .sig) (l .n) Σ s;
+  })
 
-pub opened-refused : (l : Lent) (len : ℕ) (table : List ℕ) (number : ℕ) → number ≡ number-of (lengths-test (l .workspace) len) → (number ≡ 0 → ⊥) → Opened-as (opened l len) l len table (Fault number 0)
-opened-refused l len table number e n = subst (λ (x : Result View). Opened-as x l len table (Fault number 0)) (sym (shared-refused l len header ok (ok []) (lengths-refused (l .workspace) len number e n))) refl
+module _ (l : Lent) (len : ℕ) (table : List ℕ) where
+  pub opened-refused : (number : ℕ) → number ≡ number-of (lengths-test (l .workspace) len) → (number ≡ 0 → ⊥) → Opened-as (opened l len) l len table (Fault number 0)
+  opened-refused number e n =
+      let h = shared-refused l len header ok (ok []) (lengths-refused (l .workspace) len number e n) in
+      record { answer = sym (stop _ h); passed = λ v f. absurd (not-ok (sym h ∙ f)) }
 
--- a register is refused by 3 only
-broken-number : (reg : List ℕ) {m p : ℕ} → register-records reg ≡ refused m p → (m ≡ register-broken) × (p ≡ 0)
-broken-number reg e = go (leb header (used reg) && leb (used reg) (length reg)) (records (used reg) (take (used reg - header) (drop header reg))) e
-  where
-    counted : (b : Bool) (rs : List Record) {m p : ℕ} → (require b register-broken 0 >> ok rs) ≡ refused m p → (m ≡ register-broken) × (p ≡ 0)
-    counted true rs e = absurd (clash (cc))
-    counted false rs e = (cc, cc)
-
-    go : (b : Bool) (o : Option (List Record)) {m p : ℕ} → (require b register-broken 0 >> (known register-broken 0 o >>= λ rs. require (eqb (length rs) (count reg)) register-broken 0 >> ok rs)) ≡ refused m p → (m ≡ register-broken) × (p ≡ 0)
-    go false o e = (cc, cc)
-    go true none e = (cc, cc)
-    go true (some rs) e = counted (eqb (length rs) (count reg)) rs e
+  pub opened-as : (r : Ready) → Lengths (l .workspace) len → Signed-as (signed (l .sig) (l .n)) (l .sig) table r → Opened-as (opened l len) l len table r
+  opened-as r L S =
+      let h = shared-signed l len header ok (ok []) [] (L .passed) refl in
+      record { answer = lent-answer l len header [] table r L S (opened l len) h; passed = lent-so l len header [] table r L S (opened l len) h }
 
 module _ (l : Lent) (reg table : List ℕ) where
+  unprepared : (m p : ℕ) → prepared l reg ≡ refused m p → Prepared-as (prepared l reg) l reg table (Fault m p)
+  unprepared m p h = record { answer = sym (stop _ h); passed = λ v f. absurd (not-ok (sym h ∙ f)) }
+
   pub prepared-refused : (number : ℕ) → number ≡ number-of (lengths-test (l .workspace) (length reg)) → (number ≡ 0 → ⊥) → Prepared-as (prepared l reg) l reg table (Fault number 0)
-  prepared-refused number e n = subst (λ (x : Result View). Prepared-as x l reg table (Fault number 0)) (sym (shared-refused l (length reg) (used reg) ok (register-records reg) (lengths-refused (l .workspace) (length reg) number e n))) refl
+  prepared-refused number e n = unprepared number 0 (shared-refused l (length reg) (used reg) ok (register-records reg) (lengths-refused (l .workspace) (length reg) number e n))
 
-  pub prepared-broken : (c : Contents) → Lengths (l .workspace) (length reg) → c ≡ contentsOf (register-records reg) → c ≡ Broken → Prepared-as (prepared l reg) l reg table (Fault register-broken 0)
-  unfolding contentsOf
-  prepared-broken c L e q = go (register-records reg) refl (sym e ∙ q)
-    where
-      go : (x : Result (List Record)) → register-records reg ≡ x → contentsOf x ≡ Broken → Prepared-as (prepared l reg) l reg table (Fault register-broken 0)
-      go (ok rs) f h = absurd (clash (cc))
-      go (refused m p) f h =
-          let (a, b) = broken-number reg f in
-          subst (λ (x : Result View). Prepared-as x l reg table (Fault register-broken 0)) (sym (shared-broken l (length reg) (used reg) ok (register-records reg) (L .passed) f)) (cc)
+  module _ (c : Contents) (L : Lengths (l .workspace) (length reg)) (e : contents-answer c ≡ record-count reg) where
+    pub prepared-broken : c ≡ Broken → Prepared-as (prepared l reg) l reg table (Fault register-broken 0)
+    prepared-broken q = unprepared register-broken 0 (shared-broken l (length reg) (used reg) ok (register-records reg) (L .passed) (contents-broken reg c e q))
 
-  pub prepared-as : (c : Contents) (k : ℕ) (r : Ready) → Lengths (l .workspace) (length reg) → c ≡ contentsOf (register-records reg) → c ≡ Whole k → Signed-as (signed (l .sig) (l .n)) (l .sig) table r → Prepared-as (prepared l reg) l reg table r
-  unfolding contentsOf
-  prepared-as c k r L e q S = go (register-records reg) refl (sym e ∙ q)
-    where
-      signs : (rs : List Record) → register-records reg ≡ ok rs → (x : Result (List Term)) → signed (l .sig) (l .n) ≡ x → Signed-as x (l .sig) table r → Prepared-as (x >>= λ Σ. ok (view l (length reg) (used reg) rs Σ)) l reg table r
-      signs rs f (ok Σ) e s = record { rs = rs; reads = f; lent-so = lent-so l (length reg) (used reg) rs table r L Σ e s }
-      signs rs f (refused m p) e s = s
-
-      go : (x : Result (List Record)) → register-records reg ≡ x → contentsOf x ≡ Whole k → Prepared-as (prepared l reg) l reg table r
-      go (refused m p) f h = absurd (clash (cc))
-      go (ok rs) f h = subst (λ (x : Result View). Prepared-as x l reg table r) (sym (shared-signed l (length reg) (used reg) ok (register-records reg) rs (L .passed) f)) (signs rs f (signed (l .sig) (l .n)) refl S)
+    pub prepared-as : (k : ℕ) (r : Ready) → c ≡ Whole k → Signed-as (signed (l .sig) (l .n)) (l .sig) table r → Prepared-as (prepared l reg) l reg table r
+    prepared-as k r q S =
+        let (rs, f, _) = contents-whole reg k c e q in
+        let h = shared-signed l (length reg) (used reg) ok (register-records reg) rs (L .passed) f in
+        record {
+          answer = lent-answer l (length reg) (used reg) rs table r L S (prepared l reg) h;
+          passed = λ v g. record { rs = rs; reads = f; lent-so = lent-so l (length reg) (used reg) rs table r L S (prepared l reg) h v g };
+        }

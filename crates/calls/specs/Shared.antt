@@ -27,10 +27,15 @@ lengths-test workspace register = require (leb least-workspace workspace) worksp
 abbrev pub signed : List ℕ → ℕ → Result (List Term)
 signed sig n = signature sig >>= λ Σ. require (operations-test Σ n) bad-number 0 >> ok Σ
 
--- the signature is accepted, and the first words of the table say where its constants' types stand; or number and place
-abbrev pub Signed-as : Result (List Term) → (sig table : List ℕ) → Ready → Type 0
-Signed-as (ok Σ) sig table r = (r ≡ Constants (length Σ)) × Constants-of sig (take (length Σ) table) Σ
-Signed-as (refused m p) sig table r = r ≡ Fault m p
+-- number, place and value of each case: how many constants there are
+abbrev pub ready-answer : Ready → Result ℕ
+ready-answer (Constants n) = ok n
+ready-answer (Fault m p) = refused m p
+
+-- the answer; and where the signature is accepted, the first words of the table say where its constants' types stand
+pub record Signed-as (o : Result (List Term)) (sig table : List ℕ) (r : Ready) : Type 0 where
+  pub answer : ready-answer r ≡ (o >>= λ Σ. ok (length Σ))
+  pub constants : (Σ : List Term) → o ≡ ok Σ → Constants-of sig (take (length Σ) table) Σ
 
 -- what the shared tests find: for calls on a register that is not broken, and for open
 abbrev pub prepared : Lent → List ℕ → Result View
@@ -39,27 +44,30 @@ prepared l reg = on-register l reg ok
 abbrev pub opened : Lent → (len : ℕ) → Result View
 opened l len = shared l len header (ok []) ok
 
+-- how many constants they find
+abbrev pub constants-found : Result View → Result ℕ
+constants-found o = o >>= λ v. ok (length (v .Σ))
+
 -- the tests passed
-pub record Lent-so (l : Lent) (len used : ℕ) (rs : List Record) (table : List ℕ) (v : View) (r : Ready) : Type 0 where
-  pub Σ : List Term
-  pub is : v ≡ view l len used rs Σ
-  pub answer : r ≡ Constants (length Σ)
-  pub constants : Constants-of (l .sig) (take (length Σ) table) Σ
+pub record Lent-so (l : Lent) (len used : ℕ) (rs : List Record) (table : List ℕ) (v : View) : Type 0 where
+  pub is : v ≡ view l len used rs (v .Σ)
+  pub constants : Constants-of (l .sig) (take (length (v .Σ)) table) (v .Σ)
   pub workspace : least-workspace ≤ l .workspace
   pub not-shorter : least-register ≤ len
   pub not-longer : len ≤ most-register
   pub operations : l .n ≤ most-operations
 
 -- on a register
-pub record Register-so (l : Lent) (reg table : List ℕ) (v : View) (r : Ready) : Type 0 where
+pub record Register-so (l : Lent) (reg table : List ℕ) (v : View) : Type 0 where
   pub rs : List Record
   pub reads : register-records reg ≡ ok rs
-  pub lent-so : Lent-so l (length reg) (used reg) rs table v r
+  pub lent-so : Lent-so l (length reg) (used reg) rs table v
 
-abbrev pub Prepared-as : Result View → Lent → (reg table : List ℕ) → Ready → Type 0
-Prepared-as (ok v) l reg table r = Register-so l reg table v r
-Prepared-as (refused m p) l reg table r = r ≡ Fault m p
+-- the answer, and what is so where the tests passed
+pub record Prepared-as (o : Result View) (l : Lent) (reg table : List ℕ) (r : Ready) : Type 0 where
+  pub answer : ready-answer r ≡ constants-found o
+  pub passed : (v : View) → o ≡ ok v → Register-so l reg table v
 
-abbrev pub Opened-as : Result View → Lent → (len : ℕ) → (table : List ℕ) → Ready → Type 0
-Opened-as (ok v) l len table r = Lent-so l len header [] table v r
-Opened-as (refused m p) l len table r = r ≡ Fault m p
+pub record Opened-as (o : Result View) (l : Lent) (len : ℕ) (table : List ℕ) (r : Ready) : Type 0 where
+  pub answer : ready-answer r ≡ constants-found o
+  pub passed : (v : View) → o ≡ ok v → Lent-so l len header [] table v

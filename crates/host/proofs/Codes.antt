@@ -2,23 +2,24 @@
 use Prim.Native.Nat.{ℕ, _+_, _*_, _≤_, _<_}
 use native.Mathlib.Omega.{arith}
 use mathlib.Core.Path.{_≡_, refl, sym, ap, _∙_}
-use mathlib.Core.Bool.{Bool, true, false}
+use mathlib.Core.Bool.{Bool}
 use mathlib.Core.List.{List}
 use lib.ListN.{length}
 use lib.Seq.{length-take-le}
 use Rattle.logic.specs.Refusals.{past-last-record}
 use Rattle.logic.specs.Result.{Result, ok, refused, number-of, place-of}
 use Rattle.logic.specs.Term.{Term}
-use Rattle.logic.proofs.Basics.{clash}
 use Rattle.rules.specs.declared.derivation.Derivation.{Derivation}
 use Rattle.rules.specs.declared.derivation.Derivation.the-variants.{Typed, Refused}
 use Rattle.rules.specs.declared.derivation.Verdict.{Verdict}
 use Rattle.rules.specs.declared.derivation.Verdict.the-variants.{Passed, Fault}
-use Rattle.typing.specs.Check.{Judged, verdict-of}
-use Rattle.register.specs.Calls.{Lent, open-call, say-call, after-say, request-call, check-call}
+use Rattle.rules.specs.Form.{verdict-answer}
+use Rattle.typing.specs.Check.{Judged, without-value}
+use Rattle.typing.proofs.Verdicts.{passed-told}
+use Rattle.register.specs.Calls.{Lent, open-call, say-call, request-call, check-call}
 use Rattle.register.proofs.Bounds.{Number, open-bound, say-bound, request-bound, check-bound}
 use Rattle.calls.proofs.Checks.{words-within, handed-type, handed-nothing}
-use Rattle.say.specs.Said.{said-of, Says-so}
+use Rattle.say.specs.Said.{said-answer, Says-so}
 use Rattle.say.specs.declared.Said.{Said}
 use Rattle.say.specs.declared.Said.the-variants.{Added, Held, Fault as Not-said}
 use Rattle.host.specs.Answers.{number-unit, place-limit, code-of, added-of, Said-to, Typed-to}
@@ -45,20 +46,15 @@ refused-code o m p code e c = c ∙ sym (ap code-of e)
 
 -- ---- open and request
 
-module _ {X : Type 0} (o : Result X) (r : Verdict) (v : r ≡ verdict-of o) where
-  pub passed-code : r ≡ Passed → 0 ≡ code-of o
-  passed-code q = go o v
-    where
-      go : (x : Result X) → r ≡ verdict-of x → 0 ≡ code-of x
-      go (ok y) e = refl
-      go (refused m p) e = absurd (clash (cc))
+pub opened-code : {X : Type 0} (o : Result X) (r : Verdict) → verdict-answer r ≡ without-value o → r ≡ Passed → 0 ≡ code-of o
+opened-code o r v q = let (x, e) = passed-told o r v q in ap code-of (sym e)
 
-  pub fault-is : (m p : ℕ) → r ≡ Fault m p → o ≡ refused m p
-  fault-is m p q = go o v
-    where
-      go : (x : Result X) → r ≡ verdict-of x → x ≡ refused m p
-      go (ok y) e = absurd (clash (cc))
-      go (refused m′ p′) e = cc
+module _ (o : Result (Unit {0})) (r : Verdict) (v : verdict-answer r ≡ o) where
+  pub granted-code : r ≡ Passed → 0 ≡ code-of o
+  granted-code q = ap code-of (sym (ap verdict-answer q) ∙ v)
+
+  pub not-granted : (m p : ℕ) → r ≡ Fault m p → o ≡ refused m p
+  not-granted m p q = sym v ∙ ap verdict-answer q
 
 pub open-fits : (l : Lent) (reg rules : List ℕ) (m p : ℕ) → length (l .sig) + length rules < place-limit → open-call l reg rules ≡ refused m p → Fits m p
 open-fits l reg rules m p h e = let (n, q) = open-bound l reg rules e in omega arith
@@ -69,29 +65,17 @@ request-fits l reg i v u proof m p h e = let (n, q) = request-bound l reg i v u 
 -- ---- say
 
 module _ (o : Result Bool) (old : List ℕ) (a : ℕ) (q new : List ℕ) (r : Said) (S : Says-so o old a q new r) where
+  told : {x : Said} → r ≡ x → said-answer x ≡ o
+  told f = sym (ap said-answer f) ∙ S .answer
+
   pub said-added : r ≡ Added → Said-to o old a q new 1 0
-  said-added f = go o (S .answer) (S .register)
-    where
-      go : (x : Result Bool) → r ≡ said-of x → new ≡ after-say x old a q → Said-to x old a q new 1 0
-      go (ok true) e g = record { answer = refl; register = g; added-is = refl }
-      go (ok false) e g = absurd (clash (cc))
-      go (refused m p) e g = absurd (clash (cc))
+  said-added f = let e = told f in record { answer = ap code-of e; register = S .register; added-is = ap added-of e }
 
   pub said-held : r ≡ Held → Said-to o old a q new 0 0
-  said-held f = go o (S .answer) (S .register)
-    where
-      go : (x : Result Bool) → r ≡ said-of x → new ≡ after-say x old a q → Said-to x old a q new 0 0
-      go (ok true) e g = absurd (clash (cc))
-      go (ok false) e g = record { answer = refl; register = g; added-is = refl }
-      go (refused m p) e g = absurd (clash (cc))
+  said-held f = let e = told f in record { answer = ap code-of e; register = S .register; added-is = ap added-of e }
 
   pub unsaid-is : (m p : ℕ) → r ≡ Not-said m p → o ≡ refused m p
-  unsaid-is m p f = go o (S .answer)
-    where
-      go : (x : Result Bool) → r ≡ said-of x → x ≡ refused m p
-      go (ok true) e = absurd (clash (cc))
-      go (ok false) e = absurd (clash (cc))
-      go (refused m′ p′) e = cc
+  unsaid-is m p f = sym (told f)
 
   pub said-nothing : (m p : ℕ) → r ≡ Not-said m p → (code : ℕ) → code ≡ m * number-unit + p → Said-to o old a q new 0 code
   said-nothing m p f code c = let e = unsaid-is m p f in record { answer = refused-code o m p code e c; register = S .register; added-is = sym (ap added-of e) }

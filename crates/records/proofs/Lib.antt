@@ -6,4 +6,3 @@ pub mod Adds
 pub mod RuleList
 pub mod Openings
 pub mod Writes
-pub mod Told

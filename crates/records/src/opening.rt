@@ -11,13 +11,13 @@ use words::part::skip;
 ghost use mathlib.Core.Path.{_≡_};
 ghost use Prim.Native.Nat.{_+_};
 ghost use lib.ListN.{length};
-ghost use Rattle.logic.specs.Term.{Term, encode};
-ghost use Rattle.logic.specs.Reading.{first-unheld};
+ghost use Rattle.logic.specs.Term.{Term};
 ghost use Rattle.words.specs.Place.{Is};
 ghost use Rattle.register.specs.Records.{header, words-of, held, statement, rule-kind};
 ghost use Rattle.register.specs.Records.{states as statesOf};
+ghost use Rattle.register.specs.Calls.{signs-held};
 ghost use Rattle.register.specs.History.{rules-of};
-ghost use Rattle.records.specs.Answers.{IsTerm, WholeRules, unheldOf};
+ghost use Rattle.records.specs.Answers.{IsTerm, WholeRules, unheld-answer};
 
 // Whether a rule of this principal with these words is the statement sought.
 pub fn rule_states(of: u32, rule: &[u32], principal: u32, words: &[u32]) -> bool
@@ -51,7 +51,7 @@ pub fn rule_held(rules: &[u32], principal: u32, words: &[u32]) -> bool
 // Test 14 of a rule: the Signs of a term in word order, each sought among the earlier rules.
 pub fn first_unheld_rule(rules: &[u32], term: &[u32]) -> Unheld
     requires { ⌜ WholeRules (now rules) × IsTerm (now term) ⌝ }
-    ensures { λ r. ⌜ ((t : Term) → Is (now (term .entry)) t → r ≡ unheldOf (first-unheld (λ a q. held (rules-of (now (rules .entry))) a (encode q)) 0 t)) ⌝ }
+    ensures { λ r. ⌜ ((t : Term) → Is (now (term .entry)) t → unheld-answer r ≡ signs-held (held (rules-of (now (rules .entry)))) t) ⌝ }
 {
     let mut i = 0;
     while i < term.len() {

@@ -10,10 +10,9 @@ use lib.Seq.{take-at}
 use borrow.Author.Tests.{le-leb, lt-leb, le-ltb, lt-ltb, ltb-true}
 use Rattle.logic.specs.Limits.{payloads, most-operations, most-words, most-nesting}
 use Rattle.logic.specs.Refusals.{bad-number, another-proposition, not-held, register-full}
-use Rattle.logic.specs.Result.{Result, ok, _>>=_, _>>_, require}
+use Rattle.logic.specs.Result.{Result, ok, refused, _>>=_, _>>_, require}
 use Rattle.logic.specs.Term.{Term, encode, size}
 use Rattle.logic.specs.Infer.{same}
-use Rattle.logic.specs.Reading.{first-unheld}
 use Rattle.logic.specs.Check.{check-term, Checked}
 use Rattle.logic.proofs.Results.{both-true, true-both}
 use Rattle.logic.proofs.Words.{encode-size, InRange}
@@ -24,10 +23,10 @@ use Rattle.rules.specs.declared.derivation.Derivation.{Derivation}
 use Rattle.rules.specs.declared.derivation.Derivation.the-variants.{Typed, Refused}
 use Rattle.rules.specs.declared.derivation.Verdict.{Verdict}
 use Rattle.rules.specs.declared.derivation.Verdict.the-variants.{Passed, Fault}
-use Rattle.typing.specs.Check.{typed-term, Judged, verdict-of}
+use Rattle.rules.specs.Form.{verdict-answer}
+use Rattle.typing.specs.Check.{typed-term, Judged}
 use Rattle.typing.proofs.Checks.{and-false}
-use Rattle.typing.proofs.Verdicts.{fault-told, passed-told}
-use Rattle.records.specs.Answers.{Room, unheldOf}
+use Rattle.records.specs.Answers.{Room, unheld-answer}
 use Rattle.records.specs.declared.search.Unheld.{Unheld}
 use Rattle.records.specs.declared.search.Unheld.the-variants.{Nowhere, At}
 use Rattle.records.proofs.Adds.{entry-length, room}
@@ -39,7 +38,7 @@ use Rattle.register.proofs.Words.{unbroken-right}
 use Rattle.calls.specs.Shared.{prepared, Prepared-as}
 use Rattle.calls.specs.declared.shared.Ready.{Ready}
 use Rattle.calls.specs.declared.shared.Ready.the-variants.{Fault as Unready}
-use Rattle.calls.proofs.Checks.{Passed-so, not-prepared, typed-so, Typed-so, typed-refused, Type-found, type-found, type-refused, unheld-found, all-held, words-within}
+use Rattle.calls.proofs.Checks.{Passed-so, not-prepared, typed-so, Typed-so, typed-refused, Type-found, type-found, type-refused, words-within}
 use Rattle.request.specs.Requested.{Requested}
 
 -- ---- test 5 of the call's own numbers
@@ -77,31 +76,31 @@ module _ (l : Lent) (Σ : List Term) (rs : List Record) (reg : List ℕ) (i v u 
   abbrev entry-fits : Bool
   entry-fits = leb (used reg + length (words-of (entry i v u p))) (length reg)
 
-  pub another : wanted ≡ false → Fault another-proposition 0 ≡ verdict-of (tests)
-  another q = sym (ap (λ (b : Bool). verdict-of (in-turn b (signs-held (held rs) t) entry-fits)) (sym right ∙ q))
+  pub another : wanted ≡ false → refused another-proposition 0 ≡ tests
+  another q = ap (λ (b : Bool). in-turn b (signs-held (held rs) t) entry-fits) (sym q ∙ right)
 
-  module _ (q : wanted ≡ true) (x : Unheld) (e : x ≡ unheldOf (first-unheld (λ a c. held rs a (encode c)) 0 t)) where
+  module _ (q : wanted ≡ true) (x : Unheld) (e : unheld-answer x ≡ signs-held (held rs) t) where
     wanted-proved : tests ≡ (signs-held (held rs) t >> require entry-fits register-full 0)
     wanted-proved = ap (λ (b : Bool). in-turn b (signs-held (held rs) t) entry-fits) (sym right ∙ q)
 
-    pub unheld : (place : ℕ) → x ≡ At place → Fault not-held place ≡ verdict-of (tests)
-    unheld place f = sym (ap verdict-of (wanted-proved ∙ ap (λ s. s >> require entry-fits register-full 0) (unheld-found (held rs) t x place e f)))
+    pub unheld : (place : ℕ) → x ≡ At place → refused not-held place ≡ tests
+    unheld place f = sym (wanted-proved ∙ ap (λ s. s >> require entry-fits register-full 0) (sym e ∙ ap unheld-answer f))
 
     module _ (f : x ≡ Nowhere) where
       signs-found : tests ≡ require entry-fits register-full 0
-      signs-found = wanted-proved ∙ ap (λ s. s >> require entry-fits register-full 0) (all-held (held rs) t x e f)
+      signs-found = wanted-proved ∙ ap (λ s. s >> require entry-fits register-full 0) (sym e ∙ ap unheld-answer f)
 
-      pub full : length reg - used reg < length p + entry-extra → Fault register-full 0 ≡ verdict-of (tests)
-      full h = sym (ap verdict-of (signs-found ∙ ap (λ (b : Bool). require b register-full 0) (lt-leb (used reg + length (words-of (entry i v u p))) (length reg) (omega (arith, entry-length i v u p)))))
+      pub full : length reg - used reg < length p + entry-extra → refused register-full 0 ≡ tests
+      full h = sym (signs-found ∙ ap (λ (b : Bool). require b register-full 0) (lt-leb (used reg + length (words-of (entry i v u p))) (length reg) (omega (arith, entry-length i v u p))))
 
-      pub enough : used reg ≤ length reg → length p + entry-extra ≤ length reg - used reg → Passed ≡ verdict-of (tests)
-      enough w h = sym (ap verdict-of (signs-found ∙ ap (λ (b : Bool). require b register-full 0) (le-leb (used reg + length (words-of (entry i v u p))) (length reg) (omega (arith, entry-length i v u p)))))
+      pub enough : used reg ≤ length reg → length p + entry-extra ≤ length reg - used reg → ok tt ≡ tests
+      enough w h = sym (signs-found ∙ ap (λ (b : Bool). require b register-full 0) (le-leb (used reg + length (words-of (entry i v u p))) (length reg) (omega (arith, entry-length i v u p))))
 
 -- ---- all tests
 
 module _ (l : Lent) (reg table p : List ℕ) (i v u : ℕ) (r : Ready) (P : Prepared-as (prepared l reg) l reg table r) where
-  pub request-not-prepared : (m place : ℕ) → r ≡ Unready m place → Fault m place ≡ verdict-of (request-call l reg i v u p)
-  request-not-prepared m place q = sym (ap verdict-of (not-prepared l reg table r (request-own i v u p) P m place q))
+  pub request-not-prepared : (m place : ℕ) → r ≡ Unready m place → refused m place ≡ request-call l reg i v u p
+  request-not-prepared m place q = sym (not-prepared l reg table r (request-own i v u p) P m place q)
 
   module _ (count : ℕ) (so : Passed-so l reg table r (request-own i v u p) P count) where
     -- the tests behind that of the numbers
@@ -111,8 +110,8 @@ module _ (l : Lent) (reg table p : List ℕ) (i v u : ℕ) (r : Ready) (P : Prep
     abbrev numbered : Bool → Result (Unit {0})
     numbered b = require b bad-number 0 >> (check-term (so .Σ) p >>= behind)
 
-    pub bad-numbers : (b : Bool) → b ≡ (ltb i (l .n) && payload v && payload u) → b ≡ false → Fault bad-number 0 ≡ verdict-of (request-call l reg i v u p)
-    bad-numbers b e q = sym (ap verdict-of (so .is ∙ ap numbered (sym e ∙ q)))
+    pub bad-numbers : (b : Bool) → b ≡ (ltb i (l .n) && payload v && payload u) → b ≡ false → refused bad-number 0 ≡ request-call l reg i v u p
+    bad-numbers b e q = sym (so .is ∙ ap numbered (sym e ∙ q))
 
     module _ (b : Bool) (e : b ≡ (ltb i (l .n) && payload v && payload u)) (q : b ≡ true) where
       numbers-right : request-call l reg i v u p ≡ (check-term (so .Σ) p >>= behind)
@@ -124,8 +123,8 @@ module _ (l : Lent) (reg table p : List ℕ) (i v u : ℕ) (r : Ready) (P : Prep
           let (d, f) = both-true (ltb i (l .n)) (payload v) a in
           (ltb-true i (l .n) d, ltb-true v payloads f, ltb-true u payloads c)
 
-      pub not-typed : (new : List ℕ) (d : Derivation) (m place : ℕ) → Judged (typed-term (so .Σ) most-words most-nesting p) (length p) new d → d ≡ Refused m place → Fault m place ≡ verdict-of (request-call l reg i v u p)
-      not-typed new d m place J f = sym (ap verdict-of (numbers-right ∙ ap (λ x. x >>= behind) (typed-refused (so .Σ) p m place (type-refused _ _ new d m place J f))))
+      pub not-typed : (new : List ℕ) (d : Derivation) (m place : ℕ) → Judged (typed-term (so .Σ) most-words most-nesting p) (length p) new d → d ≡ Refused m place → refused m place ≡ request-call l reg i v u p
+      not-typed new d m place J f = sym (numbers-right ∙ ap (λ x. x >>= behind) (typed-refused (so .Σ) p m place (type-refused _ _ new d m place J f)))
 
       module _ (new : List ℕ) (d : Derivation) (words end : ℕ) (J : Judged (typed-term (so .Σ) most-words most-nesting p) (length p) new d) (f : d ≡ Typed words end) where
         pub type-here : Type-found (typed-term (so .Σ) most-words most-nesting p) new words
@@ -137,18 +136,18 @@ module _ (l : Lent) (reg table p : List ℕ) (i v u : ℕ) (r : Ready) (P : Prep
         pub words-inside : words ≤ length new
         words-inside = words-within _ _ new d J words end f
 
-        pub proved : (x : Verdict) → x ≡ verdict-of (behind (record { term = term-here .term; type = type-here .type })) → x ≡ verdict-of (request-call l reg i v u p)
-        proved x g = g ∙ sym (ap verdict-of (numbers-right ∙ ap (λ y. y >>= behind) (term-here .is)))
+        pub proved : (x : Verdict) → verdict-answer x ≡ behind (record { term = term-here .term; type = type-here .type }) → verdict-answer x ≡ request-call l reg i v u p
+        proved x g = g ∙ sym (numbers-right ∙ ap (λ y. y >>= behind) (term-here .is))
 
 -- ---- what a request leaves
 
-module _ (l : Lent) (reg p : List ℕ) (i v u : ℕ) (r : Verdict) (e : r ≡ verdict-of (request-call l reg i v u p)) where
+module _ (l : Lent) (reg p : List ℕ) (i v u : ℕ) (r : Verdict) (e : verdict-answer r ≡ request-call l reg i v u p) where
   pub request-refused : (m place : ℕ) → r ≡ Fault m place → Requested (request-call l reg i v u p) reg i v u p reg r
-  request-refused m place q = record { answer = e; register = sym (ap (λ (o : Result (Unit {0})). after-request o reg i v u p) (fault-told (request-call l reg i v u p) r m place e q)) }
+  request-refused m place q = record { answer = e; register = ap (λ (o : Result (Unit {0})). after-request o reg i v u p) (sym (ap verdict-answer q) ∙ e) }
 
   module _ (q : r ≡ Passed) where
     granted : request-call l reg i v u p ≡ ok tt
-    granted = passed-told (request-call l reg i v u p) r e q .1
+    granted = sym e ∙ ap verdict-answer q
 
     pub grantable-now : Grantable l reg i v u p
     grantable-now = demand2 .grants l reg i v u p .0 granted
@@ -159,4 +158,4 @@ module _ (l : Lent) (reg p : List ℕ) (i v u : ℕ) (r : Verdict) (e : r ≡ ve
         room reg (entry i v u p) (record { found = G .proof .rs; reads = unbroken-right reg (G .proof .rs) .1 (G .proof .unbroken) }) (G .proof .ready .not-longer) (G .room)
 
     pub request-granted : (new : List ℕ) → new ≡ appended reg (entry i v u p) → Requested (request-call l reg i v u p) reg i v u p new Passed
-    request-granted new f = record { answer = sym (ap verdict-of granted); register = f ∙ sym (ap (λ (o : Result (Unit {0})). after-request o reg i v u p) granted) }
+    request-granted new f = record { answer = sym granted; register = f ∙ sym (ap (λ (o : Result (Unit {0})). after-request o reg i v u p) granted) }

@@ -8,13 +8,13 @@ use Rattle.logic.specs.Result.{Result, ok}
 use Rattle.logic.specs.Term.{Term}
 use Rattle.words.specs.Place.{Is}
 use Rattle.rules.specs.declared.derivation.Verdict.{Verdict}
-use Rattle.typing.specs.Check.{verdict-of}
+use Rattle.rules.specs.Form.{verdict-answer}
 use Rattle.register.specs.Records.{Record, register-records}
 use Rattle.register.specs.Calls.{after-request}
 
 -- the answer, and the register afterwards
 pub record Requested (o : Result (Unit {0})) (old : List ℕ) (i v u : ℕ) (p new : List ℕ) (r : Verdict) : Type 0 where
-  pub answer : r ≡ verdict-of o
+  pub answer : verdict-answer r ≡ o
   pub register : new ≡ after-request o old i v u p
 
 -- a proof whose type is the first n words of the workspace, and a register that is not broken

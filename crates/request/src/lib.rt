@@ -34,7 +34,7 @@ ghost use Rattle.logic.specs.Term.{Term, size};
 ghost use Rattle.logic.specs.Infer.{same as sameTerm};
 ghost use Rattle.words.specs.Place.{Is};
 ghost use Rattle.words.specs.Typed.{TypeAt};
-ghost use Rattle.typing.specs.Check.{verdict-of};
+ghost use Rattle.rules.specs.Form.{verdict-answer};
 ghost use Rattle.register.specs.Records.{Record, used, register-records};
 ghost use Rattle.register.specs.Calls.{Lent, view, payload, permission, proved-own, request-call};
 ghost use Rattle.calls.specs.Shared.{lent-of};
@@ -78,7 +78,10 @@ fn proves(
     n: usize,
 ) -> Verdict
     requires { ⌜ Provable (now register) operation extract (now proof) (now ws) n ⌝ }
-    ensures { λ r. ⌜ ((l : Lent) → (Σ : List Term) → (rs : List Record) → (delivery : ℕ) → (t A : Term) → register-records (now (register .entry)) ≡ ok rs → Is (now (proof .entry)) t → TypeAt (now (ws .entry)) 0 A → n ≡ size A → r ≡ verdict-of (proved-own operation extract delivery (now (proof .entry)) (record { term = t; type = A }) (view l (length (now (register .entry))) (used (now (register .entry))) rs Σ))) ⌝ }
+    ensures { λ r. ⌜ ((l : Lent) → (Σ : List Term) → (rs : List Record) → (delivery : ℕ) → (t A : Term)
+        → register-records (now (register .entry)) ≡ ok rs → Is (now (proof .entry)) t → TypeAt (now (ws .entry)) 0 A → n ≡ size A
+        → verdict-answer r ≡ proved-own operation extract delivery (now (proof .entry)) (record { term = t; type = A })
+        (view l (length (now (register .entry))) (used (now (register .entry))) rs Σ)) ⌝ }
 {
     let wanted = permits(ws, n, operation, extract);
     if !wanted {
@@ -115,7 +118,8 @@ fn grantable(
     proof: &[u32],
     ws: &mut [u32],
 ) -> Verdict
-    ensures { λ r. ⌜ r ≡ verdict-of (request-call (lent-of (now (sig .entry)) n (length (now (ws .entry)))) (now (register .entry)) operation extract delivery (now (proof .entry))) ⌝ }
+    ensures { λ r. ⌜ verdict-answer r ≡
+        request-call (lent-of (now (sig .entry)) n (length (now (ws .entry)))) (now (register .entry)) operation extract delivery (now (proof .entry)) ⌝ }
 {
     let mut table = [0u32; 256];
     let ready = prepare(sig, n, register, &mut table, ws);

@@ -1,7 +1,7 @@
 -- A say's own tests, one after the other, behind those that calls share.
 use Prim.Native.Nat.{ℕ, _+_, _-_, _≤_, _<_}
 use native.Mathlib.Omega.{arith}
-use mathlib.Core.Path.{_≡_, refl, sym, ap, _∙_}
+use mathlib.Core.Path.{_≡_, sym, ap, _∙_}
 use mathlib.Core.Bool.{Bool, true, false, not}
 use mathlib.Core.List.{List, [], _∷_}
 use lib.Dec.{leb, eqb}
@@ -10,31 +10,30 @@ use borrow.Author.Tests.{le-leb, lt-leb, le-ltb, lt-ltb, eq-eqb, ne-eqb}
 use Rattle.logic.specs.Limits.{payloads, most-words}
 use Rattle.logic.specs.Refusals.{bad-number, desk-says, not-held, register-full}
 use Rattle.logic.specs.Result.{Result, ok, refused, _>>=_, _>>_, require, pick}
-use Rattle.logic.specs.Term.{Term, encode}
+use Rattle.logic.specs.Term.{Term}
 use Rattle.logic.specs.Scope.{Signature}
-use Rattle.logic.specs.Reading.{first-unheld}
 use Rattle.logic.specs.Check.{check-statement}
-use Rattle.logic.proofs.Basics.{clash}
 use Rattle.logic.proofs.Check.{check-statement-right}
 use Rattle.words.specs.Place.{Is}
 use Rattle.rules.specs.declared.derivation.Verdict.{Verdict}
 use Rattle.rules.specs.declared.derivation.Verdict.the-variants.{Passed, Fault as Refusal}
-use Rattle.typing.specs.Check.{verdict-of}
+use Rattle.rules.specs.Form.{verdict-answer}
+use Rattle.typing.specs.Check.{without-value}
 use Rattle.typing.proofs.Verdicts.{fault-told, passed-told}
-use Rattle.records.specs.Answers.{Room, unheldOf}
+use Rattle.records.specs.Answers.{Room, unheld-answer}
 use Rattle.records.specs.declared.search.Unheld.{Unheld}
 use Rattle.records.specs.declared.search.Unheld.the-variants.{Nowhere, At}
 use Rattle.records.proofs.Adds.{statement-words, room}
 use Rattle.register.specs.Records.{Record, used, held, words-of, appended, statement, statement-extra, say-kind}
-use Rattle.register.specs.Calls.{Lent, view, stated-own, say-own, say-call, after-say}
+use Rattle.register.specs.Calls.{Lent, signs-held, view, stated-own, say-own, say-call, after-say}
 use Rattle.register.specs.Succeeds.{Adds, added-now}
 use Rattle.register.proofs.Succeeds.{demand2}
 use Rattle.register.proofs.Words.{unbroken-right}
 use Rattle.calls.specs.Shared.{prepared, Prepared-as}
 use Rattle.calls.specs.declared.shared.Ready.{Ready}
 use Rattle.calls.specs.declared.shared.Ready.the-variants.{Fault as Unready}
-use Rattle.calls.proofs.Checks.{Passed-so, not-prepared, unheld-found, all-held}
-use Rattle.say.specs.Said.{said-of, Says-so}
+use Rattle.calls.proofs.Checks.{Passed-so, not-prepared}
+use Rattle.say.specs.Said.{said-answer, Says-so}
 use Rattle.say.specs.declared.Said.{Said}
 use Rattle.say.specs.declared.Said.the-variants.{Added, Held, Fault}
 
@@ -46,29 +45,29 @@ statement-length a q = omega (arith, ap length (statement-words say-kind a q))
 abbrev in-turn : Result (Unit {0}) → Bool → Bool → Result Bool
 in-turn s h b = s >> pick h (ok false) (require b register-full 0 >> ok true)
 
-module _ (l : Lent) (Σ : List Term) (rs : List Record) (reg : List ℕ) (a : ℕ) (ws : List ℕ) (q : Term) (x : Unheld) (e : x ≡ unheldOf (first-unheld (λ b c. held rs b (encode c)) 0 q)) where
+module _ (l : Lent) (Σ : List Term) (rs : List Record) (reg : List ℕ) (a : ℕ) (ws : List ℕ) (q : Term) (x : Unheld) (e : unheld-answer x ≡ signs-held (held rs) q) where
   abbrev tests : Result Bool
   tests = stated-own a ws q (view l (length reg) (used reg) rs Σ)
 
   abbrev statement-fits : Bool
   statement-fits = leb (used reg + length (words-of (statement say-kind a ws ∷ []))) (length reg)
 
-  pub unheld : (place : ℕ) → x ≡ At place → Fault not-held place ≡ said-of (tests)
-  unheld place f = sym (ap (λ s. said-of (in-turn s (held rs a ws) statement-fits)) (unheld-found (held rs) q x place e f))
+  pub unheld : (place : ℕ) → x ≡ At place → refused not-held place ≡ tests
+  unheld place f = ap (λ s. in-turn s (held rs a ws) statement-fits) (sym (ap unheld-answer f) ∙ e)
 
   module _ (f : x ≡ Nowhere) (h : Bool) (g : h ≡ held rs a ws) where
     signs-found : (b : Bool) → h ≡ b → tests ≡ pick b (ok false) (require statement-fits register-full 0 >> ok true)
-    signs-found b k = ap (λ s. in-turn s (held rs a ws) statement-fits) (all-held (held rs) q x e f) ∙ ap (λ (y : Bool). pick y (ok false) (require statement-fits register-full 0 >> ok true)) (sym g ∙ k)
+    signs-found b k = ap (λ s. in-turn s (held rs a ws) statement-fits) (sym e ∙ ap unheld-answer f) ∙ ap (λ (y : Bool). pick y (ok false) (require statement-fits register-full 0 >> ok true)) (sym g ∙ k)
 
-    pub repeated : h ≡ true → Held ≡ said-of (tests)
-    repeated k = sym (ap said-of (signs-found true k))
+    pub repeated : h ≡ true → ok false ≡ tests
+    repeated k = sym (signs-found true k)
 
     module _ (k : h ≡ false) where
-      pub full : length reg - used reg < length ws + statement-extra → Fault register-full 0 ≡ said-of (tests)
-      full l = sym (ap said-of (signs-found false k ∙ ap (λ (b : Bool). require b register-full 0 >> ok true) (lt-leb (used reg + length (words-of (statement say-kind a ws ∷ []))) (length reg) (omega (arith, statement-length a ws)))))
+      pub full : length reg - used reg < length ws + statement-extra → refused register-full 0 ≡ tests
+      full l = sym (signs-found false k ∙ ap (λ (b : Bool). require b register-full 0 >> ok true) (lt-leb (used reg + length (words-of (statement say-kind a ws ∷ []))) (length reg) (omega (arith, statement-length a ws))))
 
-      pub enough : used reg ≤ length reg → length ws + statement-extra ≤ length reg - used reg → Added ≡ said-of (tests)
-      enough w l = sym (ap said-of (signs-found false k ∙ ap (λ (b : Bool). require b register-full 0 >> ok true) (le-leb (used reg + length (words-of (statement say-kind a ws ∷ []))) (length reg) (omega (arith, statement-length a ws)))))
+      pub enough : used reg ≤ length reg → length ws + statement-extra ≤ length reg - used reg → ok true ≡ tests
+      enough w l = sym (signs-found false k ∙ ap (λ (b : Bool). require b register-full 0 >> ok true) (le-leb (used reg + length (words-of (statement say-kind a ws ∷ []))) (length reg) (omega (arith, statement-length a ws))))
 
 -- ---- tests 6 to 12
 
@@ -79,7 +78,7 @@ pub record Statement-so (Σ : List Term) (a : ℕ) (ws : List ℕ) : Type 0 wher
   pub term-is : Is ws term
   pub short : length ws ≤ most-words
 
-pub statement-so : (Σ : List Term) → Signature Σ → (a : ℕ) (ws : List ℕ) (r : Verdict) → r ≡ verdict-of (check-statement Σ a ws) → r ≡ Passed → Statement-so Σ a ws
+pub statement-so : (Σ : List Term) → Signature Σ → (a : ℕ) (ws : List ℕ) (r : Verdict) → verdict-answer r ≡ without-value (check-statement Σ a ws) → r ≡ Passed → Statement-so Σ a ws
 statement-so Σ sig a ws r e q =
     let (t, f) = passed-told (check-statement Σ a ws) r e q in
     let W = check-statement-right Σ sig ws a t .0 f .term in
@@ -88,8 +87,8 @@ statement-so Σ sig a ws r e q =
 -- ---- all tests
 
 module _ (l : Lent) (reg table ws : List ℕ) (a : ℕ) (r : Ready) (P : Prepared-as (prepared l reg) l reg table r) where
-  pub say-not-prepared : (m place : ℕ) → r ≡ Unready m place → Fault m place ≡ said-of (say-call l reg a ws)
-  say-not-prepared m place q = sym (ap said-of (not-prepared l reg table r (say-own a ws) P m place q))
+  pub say-not-prepared : (m place : ℕ) → r ≡ Unready m place → refused m place ≡ say-call l reg a ws
+  say-not-prepared m place q = sym (not-prepared l reg table r (say-own a ws) P m place q)
 
   module _ (count : ℕ) (so : Passed-so l reg table r (say-own a ws) P count) where
     abbrev behind : Result Term → Result Bool
@@ -98,50 +97,35 @@ module _ (l : Lent) (reg table ws : List ℕ) (a : ℕ) (r : Ready) (P : Prepare
     abbrev numbered : Bool → Bool → Result Bool
     numbered b d = require b bad-number 0 >> (require (not d) desk-says 0 >> behind (check-statement (so .Σ) a ws))
 
-    pub principal-over : payloads ≤ a → Fault bad-number 0 ≡ said-of (say-call l reg a ws)
-    principal-over h = sym (ap said-of (so .is ∙ ap (λ (b : Bool). numbered b (eqb a 0)) (le-ltb a payloads h)))
+    pub principal-over : payloads ≤ a → refused bad-number 0 ≡ say-call l reg a ws
+    principal-over h = sym (so .is ∙ ap (λ (b : Bool). numbered b (eqb a 0)) (le-ltb a payloads h))
 
     module _ (h : a < payloads) where
-      pub by-desk : a ≡ 0 → Fault desk-says 0 ≡ said-of (say-call l reg a ws)
-      by-desk e = sym (ap said-of (so .is ∙ ap (λ (b : Bool). numbered b (eqb a 0)) (lt-ltb a payloads h) ∙ ap (numbered true) (eq-eqb a 0 e)))
+      pub by-desk : a ≡ 0 → refused desk-says 0 ≡ say-call l reg a ws
+      by-desk e = sym (so .is ∙ ap (λ (b : Bool). numbered b (eqb a 0)) (lt-ltb a payloads h) ∙ ap (numbered true) (eq-eqb a 0 e))
 
-      module _ (n : a ≡ 0 → ⊥) (d : Verdict) (e : d ≡ verdict-of (check-statement (so .Σ) a ws)) where
+      module _ (n : a ≡ 0 → ⊥) (d : Verdict) (e : verdict-answer d ≡ without-value (check-statement (so .Σ) a ws)) where
         numbers-right : say-call l reg a ws ≡ behind (check-statement (so .Σ) a ws)
         numbers-right = so .is ∙ ap (λ (b : Bool). numbered b (eqb a 0)) (lt-ltb a payloads h) ∙ ap (numbered true) (ne-eqb a 0 n)
 
-        pub not-stated : (m place : ℕ) → d ≡ Refusal m place → Fault m place ≡ said-of (say-call l reg a ws)
-        not-stated m place q = sym (ap said-of (numbers-right ∙ ap behind (fault-told (check-statement (so .Σ) a ws) d m place e q)))
+        pub not-stated : (m place : ℕ) → d ≡ Refusal m place → refused m place ≡ say-call l reg a ws
+        not-stated m place q = sym (numbers-right ∙ ap behind (fault-told (check-statement (so .Σ) a ws) d m place e q))
 
-        pub stated : (S : Statement-so (so .Σ) a ws) (x : Said) → x ≡ said-of (stated-own a ws (S .term) (view l (length reg) (used reg) (so .rs) (so .Σ))) → x ≡ said-of (say-call l reg a ws)
-        stated S x g = g ∙ sym (ap said-of (numbers-right ∙ ap behind (S .is)))
+        pub stated : (S : Statement-so (so .Σ) a ws) (x : Said) → said-answer x ≡ stated-own a ws (S .term) (view l (length reg) (used reg) (so .rs) (so .Σ)) → said-answer x ≡ say-call l reg a ws
+        stated S x g = g ∙ sym (numbers-right ∙ ap behind (S .is))
 
 -- ---- what a say leaves
 
-module _ (l : Lent) (reg ws : List ℕ) (a : ℕ) (r : Said) (e : r ≡ said-of (say-call l reg a ws)) where
+module _ (l : Lent) (reg ws : List ℕ) (a : ℕ) (r : Said) (e : said-answer r ≡ say-call l reg a ws) where
   pub say-refused : (m place : ℕ) → r ≡ Fault m place → Says-so (say-call l reg a ws) reg a ws reg (Fault m place)
-  say-refused m place q = record { answer = sym q ∙ e; register = go (say-call l reg a ws) (sym q ∙ e) }
-    where
-      go : (o : Result Bool) → Fault m place ≡ said-of o → reg ≡ after-say o reg a ws
-      go (ok true) f = absurd (clash (cc))
-      go (ok false) f = absurd (clash (cc))
-      go (refused m′ place′) f = refl
+  say-refused m place q = let h = sym (ap said-answer q) ∙ e in record { answer = h; register = ap (λ (o : Result Bool). after-say o reg a ws) h }
 
   pub say-held : r ≡ Held → Says-so (say-call l reg a ws) reg a ws reg Held
-  say-held q = record { answer = sym q ∙ e; register = go (say-call l reg a ws) (sym q ∙ e) }
-    where
-      go : (o : Result Bool) → Held ≡ said-of o → reg ≡ after-say o reg a ws
-      go (ok true) f = absurd (clash (cc))
-      go (ok false) f = refl
-      go (refused m′ place′) f = absurd (clash (cc))
+  say-held q = let h = sym (ap said-answer q) ∙ e in record { answer = h; register = ap (λ (o : Result Bool). after-say o reg a ws) h }
 
   module _ (q : r ≡ Added) where
     added : say-call l reg a ws ≡ ok true
-    added = go (say-call l reg a ws) (sym q ∙ e)
-      where
-        go : (o : Result Bool) → Added ≡ said-of o → o ≡ ok true
-        go (ok true) f = refl
-        go (ok false) f = absurd (clash (cc))
-        go (refused m′ place′) f = absurd (clash (cc))
+    added = sym e ∙ ap said-answer q
 
     pub say-room : Room reg (statement say-kind a ws ∷ [])
     say-room =
@@ -152,4 +136,4 @@ module _ (l : Lent) (reg ws : List ℕ) (a : ℕ) (r : Said) (e : r ≡ said-of 
         fits-now (added-now n f) = f
 
     pub say-added : (new : List ℕ) → new ≡ appended reg (statement say-kind a ws ∷ []) → Says-so (say-call l reg a ws) reg a ws new Added
-    say-added new f = record { answer = sym q ∙ e; register = f ∙ sym (ap (λ (o : Result Bool). after-say o reg a ws) added) }
+    say-added new f = record { answer = sym added; register = f ∙ sym (ap (λ (o : Result Bool). after-say o reg a ws) added) }

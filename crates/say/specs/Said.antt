@@ -13,15 +13,15 @@ use Rattle.register.specs.Calls.{after-say}
 use Rattle.say.specs.declared.Said.{Said}
 use Rattle.say.specs.declared.Said.the-variants.{Added, Held, Fault}
 
--- "say also whether it added a record": 0 at place 0 where it was added or held, else number and place
-abbrev pub said-of : Result Bool → Said
-said-of (ok true) = Added
-said-of (ok false) = Held
-said-of (refused m p) = Fault m p
+-- number, place and value of each case: whether it added a record. "Success answers 0 at place 0, and say also whether it added a record"
+abbrev pub said-answer : Said → Result Bool
+said-answer Added = ok true
+said-answer Held = ok false
+said-answer (Fault m p) = refused m p
 
 -- the answer, and the register afterwards
 pub record Says-so (o : Result Bool) (old : List ℕ) (a : ℕ) (q new : List ℕ) (r : Said) : Type 0 where
-  pub answer : r ≡ said-of o
+  pub answer : said-answer r ≡ o
   pub register : new ≡ after-say o old a q
 
 -- a plain term of few words, and a register that is not broken

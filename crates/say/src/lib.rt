@@ -25,7 +25,7 @@ ghost use Rattle.words.specs.Place.{Is};
 ghost use Rattle.register.specs.Records.{Record, used, register-records};
 ghost use Rattle.register.specs.Calls.{Lent, view, stated-own, say-call};
 ghost use Rattle.calls.specs.Shared.{lent-of};
-ghost use Rattle.say.specs.Said.{said-of, Says-so, Enterable};
+ghost use Rattle.say.specs.Said.{said-answer, Says-so, Enterable};
 
 // What a say answers: it added a record, or the statement was held, or a test refused.
 pub enum Said {
@@ -37,7 +37,9 @@ pub enum Said {
 // Tests 14 and 16, and whether the statement is held, of a proposition that passed the others.
 fn addable(register: &[u32], principal: u32, proposition: &[u32]) -> Said
     requires { ⌜ Enterable (now register) (now proposition) ⌝ }
-    ensures { λ r. ⌜ ((l : Lent) → (Σ : List Term) → (rs : List Record) → (q : Term) → register-records (now (register .entry)) ≡ ok rs → Is (now (proposition .entry)) q → r ≡ said-of (stated-own principal (now (proposition .entry)) q (view l (length (now (register .entry))) (used (now (register .entry))) rs Σ))) ⌝ }
+    ensures { λ r. ⌜ ((l : Lent) → (Σ : List Term) → (rs : List Record) → (q : Term) → register-records (now (register .entry)) ≡ ok rs
+        → Is (now (proposition .entry)) q
+        → said-answer r ≡ stated-own principal (now (proposition .entry)) q (view l (length (now (register .entry))) (used (now (register .entry))) rs Σ)) ⌝ }
 {
     let unheld = first_unheld(register, proposition);
     if let Unheld::At(place) = unheld {
@@ -69,7 +71,8 @@ fn sayable(
     proposition: &[u32],
     ws: &mut [u32],
 ) -> Said
-    ensures { λ r. ⌜ r ≡ said-of (say-call (lent-of (now (sig .entry)) n (length (now (ws .entry)))) (now (register .entry)) principal (now (proposition .entry))) ⌝ }
+    ensures { λ r. ⌜ said-answer r ≡
+        say-call (lent-of (now (sig .entry)) n (length (now (ws .entry)))) (now (register .entry)) principal (now (proposition .entry)) ⌝ }
 {
     let mut table = [0u32; 256];
     let ready = prepare(sig, n, register, &mut table, ws);

@@ -4,7 +4,8 @@ use Rattle.logic.specs.Result.{Result}
 use Rattle.register.specs.Records.{Record}
 use Rattle.register.specs.Calls.{Lent, open-call}
 use Rattle.calls.specs.Shared.{lent-of}
-use Rattle.host.proofs.Codes.{passed-code, fault-is, refused-code, open-fits}
+use Rattle.typing.proofs.Verdicts.{fault-told}
+use Rattle.host.proofs.Codes.{opened-code, refused-code, open-fits}
 use native.Mathlib.Omega.{arith}
 use borrow.Author.Needs.{needs}
 use Rattle.host.proofs.aura0_open.Statement.{statement}
@@ -27,7 +28,10 @@ enum-known-verdict : tie.Need-enum-known-verdict
 enum-known-verdict c = search needs
 
 code-requires : tie.Need-code-requires
-code-requires c κs = let s = c .before .before .before .before .before .before .before .before .before .before .before .before .before .before in let v = c .before .before .before .before .before .before .before .«open» in open-fits (lent-here s) (s .args .register .now) (s .args .rules .now) _ _ (omega (arith, s .good)) (fault-is (called s) (v .result) (v .ensures .answer) _ _ (c .before .verdict .given .1))
+code-requires c κs =
+    let s = c .before .before .before .before .before .before .before .before .before .before .before .before .before .before in
+    let v = c .before .before .before .before .before .before .before .«open» in
+    open-fits (lent-here s) (s .args .register .now) (s .args .rules .now) _ _ (omega (arith, s .good)) (fault-told (called s) (v .result) _ _ (v .ensures .answer) (c .before .verdict .given .1))
 
 same-length : tie.Need-same-length
 same-length c = search needs
@@ -36,7 +40,7 @@ same-length-2 : tie.Need-same-length-2
 same-length-2 c = search needs
 
 returns : tie.Need-returns
-returns c = let v = c .before .before .before .before .before .before .«open» in record { answer = passed-code (called (c .before .before .before .before .before .before .before .before .before .before .before .before .before)) (v .result) (v .ensures .answer) (c .enum-told .given .1); register = v .ensures .register }
+returns c = let v = c .before .before .before .before .before .before .«open» in record { answer = opened-code (called (c .before .before .before .before .before .before .before .before .before .before .before .before .before)) (v .result) (v .ensures .answer) (c .enum-told .given .1); register = v .ensures .register }
 
 same-length-3 : tie.Need-same-length-3
 same-length-3 c = search needs
@@ -45,7 +49,10 @@ same-length-4 : tie.Need-same-length-4
 same-length-4 c = search needs
 
 returns-2 : tie.Need-returns-2
-returns-2 c = let s = c .before .before .before .before .before .before .before .before .before .before .before .before .before .before .before in let v = c .before .before .before .before .before .before .before .before .«open» in record { answer = refused-code (called s) _ _ (c .code .result) (fault-is (called s) (v .result) (v .ensures .answer) _ _ (c .before .before .verdict .given .1)) (c .code .ensures); register = v .ensures .register }
+returns-2 c =
+    let s = c .before .before .before .before .before .before .before .before .before .before .before .before .before .before .before in
+    let v = c .before .before .before .before .before .before .before .before .«open» in
+    record { answer = refused-code (called s) _ _ (c .code .result) (fault-told (called s) (v .result) _ _ (v .ensures .answer) (c .before .before .verdict .given .1)) (c .code .ensures); register = v .ensures .register }
 
 pub aura0-open-spec : {M : Type 1} → statement M
 aura0-open-spec =

@@ -2,7 +2,7 @@ use lib.ListN.{length}
 use Rattle.logic.specs.Result.{Result}
 use Rattle.register.specs.Calls.{Lent, request-call}
 use Rattle.calls.specs.Shared.{lent-of}
-use Rattle.host.proofs.Codes.{passed-code, fault-is, refused-code, request-fits}
+use Rattle.host.proofs.Codes.{granted-code, not-granted, refused-code, request-fits}
 use native.Mathlib.Omega.{arith}
 use borrow.Author.Needs.{needs}
 use Rattle.host.proofs.aura0_request.Statement.{statement}
@@ -25,7 +25,11 @@ enum-known-verdict : tie.Need-enum-known-verdict
 enum-known-verdict c = search needs
 
 code-requires : tie.Need-code-requires
-code-requires c κs = let s = c .before .before .before .before .before .before .before .before .before .before .before .before .before .before in let a = s .args in let v = c .before .before .before .before .before .before .before .request in request-fits (lent-here s) (a .register .now) (a .operation) (a .extract) (a .delivery) (a .proof .now) _ _ (omega (arith, s .good)) (fault-is (called s) (v .result) (v .ensures .answer) _ _ (c .before .verdict .given .1))
+code-requires c κs =
+    let s = c .before .before .before .before .before .before .before .before .before .before .before .before .before .before in
+    let a = s .args in
+    let v = c .before .before .before .before .before .before .before .request in
+    request-fits (lent-here s) (a .register .now) (a .operation) (a .extract) (a .delivery) (a .proof .now) _ _ (omega (arith, s .good)) (not-granted (called s) (v .result) (v .ensures .answer) _ _ (c .before .verdict .given .1))
 
 same-length : tie.Need-same-length
 same-length c = search needs
@@ -34,7 +38,7 @@ same-length-2 : tie.Need-same-length-2
 same-length-2 c = search needs
 
 returns : tie.Need-returns
-returns c = let v = c .before .before .before .before .before .before .request in record { answer = passed-code (called (c .before .before .before .before .before .before .before .before .before .before .before .before .before)) (v .result) (v .ensures .answer) (c .enum-told .given .1); register = v .ensures .register }
+returns c = let v = c .before .before .before .before .before .before .request in record { answer = granted-code (called (c .before .before .before .before .before .before .before .before .before .before .before .before .before)) (v .result) (v .ensures .answer) (c .enum-told .given .1); register = v .ensures .register }
 
 same-length-3 : tie.Need-same-length-3
 same-length-3 c = search needs
@@ -43,7 +47,10 @@ same-length-4 : tie.Need-same-length-4
 same-length-4 c = search needs
 
 returns-2 : tie.Need-returns-2
-returns-2 c = let s = c .before .before .before .before .before .before .before .before .before .before .before .before .before .before .before in let v = c .before .before .before .before .before .before .before .before .request in record { answer = refused-code (called s) _ _ (c .code .result) (fault-is (called s) (v .result) (v .ensures .answer) _ _ (c .before .before .verdict .given .1)) (c .code .ensures); register = v .ensures .register }
+returns-2 c =
+    let s = c .before .before .before .before .before .before .before .before .before .before .before .before .before .before .before in
+    let v = c .before .before .before .before .before .before .before .before .request in
+    record { answer = refused-code (called s) _ _ (c .code .result) (not-granted (called s) (v .result) (v .ensures .answer) _ _ (c .before .before .verdict .given .1)) (c .code .ensures); register = v .ensures .register }
 
 pub aura0-request-spec : {M : Type 1} → statement M
 aura0-request-spec =

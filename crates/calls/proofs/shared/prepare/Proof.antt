@@ -43,7 +43,10 @@ same-length-2 : tie.Need-same-length-2
 same-length-2 c = search needs
 
 returns-3 : tie.Need-returns-3
-returns-3 c = let s = c .before .before .before .before .before .before .before .before .before .before .before .before .before .before .before .before in prepared-as (lent-of (s .args .sig .now) (s .args .n) (length (s .args .ws .now))) (s .args .register .now) _ (c .before .before .before .before .before .before .before .before .before .walk .result) _ (c .before .before .before .before .accept .result) (fine (c .before .before .before .before .before .before .before .before .before .before)) (c .before .before .before .before .before .before .before .before .before .walk .ensures) (c .before .before .before .before .before .before .before .enum-told2 .given .1) (c .before .before .before .before .accept .ensures)
+returns-3 c =
+    let s = c .before .before .before .before .before .before .before .before .before .before .before .before .before .before .before .before in
+    prepared-as (lent-of (s .args .sig .now) (s .args .n) (length (s .args .ws .now))) (s .args .register .now) _ (c .before .before .before .before .before .before .before .before .before .walk .result) (fine (c .before .before .before .before .before .before .before .before .before .before))
+    (c .before .before .before .before .before .before .before .before .before .walk .ensures) _ (c .before .before .before .before .accept .result) (c .before .before .before .before .before .before .before .enum-told2 .given .1) (c .before .before .before .before .accept .ensures)
 
 pub prepare-spec : {M : Type 1} → statement M
 prepare-spec =
