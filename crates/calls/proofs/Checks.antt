@@ -15,7 +15,7 @@ use Rattle.logic.specs.Infer.{infer}
 use Rattle.logic.specs.Check.{term-of, check-term, Checked}
 use Rattle.logic.proofs.Basics.{clash}
 use Rattle.logic.proofs.Results.{ok-inj, bound, bind-is}
-use Rattle.logic.proofs.Stopped.{stopped, not-refused, stop}
+use Rattle.logic.proofs.Stopped.{not-mapped, stop}
 use Rattle.logic.proofs.Words.{encode-size}
 use Rattle.logic.proofs.Check.{term-of-right}
 use Rattle.words.specs.Place.{Is}
@@ -53,7 +53,7 @@ own-tests l len words records own =
 
 -- what an answer that refuses tells
 pub not-ready : (o : Result View) (r : Ready) → ready-answer r ≡ constants-found o → (m p : ℕ) → r ≡ Fault m p → o ≡ refused m p
-not-ready o r e m p q = stopped o _ (sym e ∙ ap ready-answer q) (λ f. f) (λ v f g. absurd (not-refused g))
+not-ready o r e m p q = not-mapped (λ v. length (v .Σ)) o (sym e ∙ ap ready-answer q)
 
 module _ {Y : Type 0} (l : Lent) (reg table : List ℕ) (r : Ready) (own : View → Result Y) (P : Prepared-as (prepared l reg) l reg table r) where
   -- the shared tests refused

@@ -17,7 +17,7 @@ use Rattle.logic.specs.Infer.{same, condition, measured}
 use Rattle.logic.proofs.Basics.{clash}
 use Rattle.logic.proofs.Proposition.{same-true, same-yes, same-no}
 use Rattle.logic.proofs.Results.{ok-inj, bound}
-use Rattle.logic.proofs.Stopped.{not-refused, stopped}
+use Rattle.logic.proofs.Stopped.{not-mapped}
 use Rattle.logic.proofs.Words.{first, InRangeAtom, InRange, encode-size, encode-injective}
 use Rattle.words.specs.Place.{written}
 use Rattle.words.specs.Typed.{TypeAt}
@@ -109,7 +109,7 @@ writes o A words end ws mid new e s l p k w =
 
 module _ {r : Derivation} (o : Result Term) (end : ℕ) (e : derivation-answer r ≡ ended o end) where
   pub refused-by : (m p : ℕ) → r ≡ Refused m p → o ≡ refused m p
-  refused-by m p q = stopped o _ (sym e ∙ ap derivation-answer q) (λ i. i) λ A i j. absurd (not-refused j)
+  refused-by m p q = not-mapped (λ A. (size A, end)) o (sym e ∙ ap derivation-answer q)
 
   pub typed-by : {Z : Type 0} (words last : ℕ) → r ≡ Typed words last → ((A : Term) → o ≡ ok A → words ≡ size A → last ≡ end → Z) → Z
   typed-by words last q f = bound o _ (sym e ∙ ap derivation-answer q) λ A i j.

@@ -9,7 +9,7 @@ use Rattle.logic.specs.Result.{ok, refused}
 use Rattle.logic.specs.Term.{Term}
 use Rattle.logic.specs.SignatureList.{signature}
 use Rattle.logic.proofs.Results.{ok-inj, bound}
-use Rattle.logic.proofs.Stopped.{not-refused, stopped}
+use Rattle.logic.proofs.Stopped.{not-mapped}
 use Rattle.typing.specs.Check.{Constants-of}
 use Rattle.signature.specs.Listing.{listed-answer, Read-as}
 use Rattle.signature.specs.declared.list.Listed.{Listed}
@@ -17,7 +17,7 @@ use Rattle.signature.specs.declared.list.Listed.the-variants.{Accepted, 
 
 -- a bad constant was found
 pub list-refused : (sig table : List ℕ) (p : ℕ) (r : Listed) → Read-as (signature sig) sig table r → r ≡ Bad p → signature sig ≡ refused bad-signature p
-list-refused sig table p r R q = stopped (signature sig) _ (sym (R .answer) ∙ ap listed-answer q) (λ i. i) λ Σ i j. absurd (not-refused j)
+list-refused sig table p r R q = not-mapped length (signature sig) (sym (R .answer) ∙ ap listed-answer q)
 
 -- the constants that were read
 pub record Constants-read (sig table : List ℕ) (count : ℕ) : Type 0 where

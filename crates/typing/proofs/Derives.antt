@@ -286,17 +286,6 @@ module _ {sig table proof ws : List ℕ} {floor used at left : ℕ} {Σ Γ : Lis
     first-has : Has Σ Γ a A
     first-has = sound Σ (R .signature) a Γ (at + 1) (R .context) (B .is) .0
 
-    keep-small : keep ≤ most-type-words
-    keep-small = go o (I .keep-is)
-      where
-        go : (o : Op) → keep ≡ keep-of o n → keep ≤ most-type-words
-        go saysO e = omega arith
-        go piO e = omega arith
-        go lamO e = omega arith
-        go appO e = omega (arith, B .enters .type-words, B .small)
-        go retO e = omega arith
-        go bindO e = omega arith
-
     -- a level's words, and those of the levels below it
     mul-level : (k : ℕ) → 2 ≤ k → level-words + level-words ≤ k * level-words
     mul-level k l = omega arith

@@ -7,9 +7,6 @@ use lib.ListN.{length, take, drop, length-append, length-drop, drop-of-length-le
 use lib.Seq.{drop-drop, drop-append-add, length-take-le, take-all}
 use Rattle.rules.specs.Scope.{tail}
 
-pub tail-length : (k : ℕ) (ws : List ℕ) → k ≤ length ws → length (tail k ws) ≡ k
-tail-length k ws l = let d = length-drop (length ws - k) ws in omega arith
-
 -- what is not written from the place i on is kept
 pub tail-kept : (k i : ℕ) (old new : List ℕ) → length new ≡ length old → drop i new ≡ drop i old → i + k ≤ length old → tail k new ≡ tail k old
 tail-kept k i old new e d l =
@@ -19,13 +16,6 @@ tail-kept k i old new e d l =
     ∙ ap (drop (length old - k - i)) d
     ∙ drop-drop (length old - k - i) i old
     ∙ ap (λ (j : ℕ). drop j old) (sym q)
-
--- fewer words
-pub tail-less : (h k : ℕ) (x y : List ℕ) → h ≤ k → k ≤ length x → length x ≡ length y → tail k x ≡ tail k y → tail h x ≡ tail h y
-tail-less h k x y l m e q =
-    let i : length x - h ≡ length x - k + (k - h) = omega arith in
-    let j : length y - h ≡ length y - k + (k - h) = omega arith in
-    ap (λ (n : ℕ). drop n x) i ∙ sym (drop-drop (k - h) (length x - k) x) ∙ ap (drop (k - h)) q ∙ drop-drop (k - h) (length y - k) y ∙ ap (λ (n : ℕ). drop n y) (sym j)
 
 -- the rest from n on, while it is lent
 abbrev pub rest-of : ℕ → List ℕ → List ℕ
