@@ -1,0 +1,50 @@
+-- Document 01's section on typing, a sentence at a time, by computation.
+use mathlib.Core.Path.{refl}
+use native.Mathlib.Decide.{ℕ-discrete}
+use Rattle.logic.specs.Term.{size, encode}
+use Rattle.logic.specs.Move.{shift, fillAt, occurs}
+use Rattle.logic.specs.Reading.{read, too-deep}
+use Rattle.logic.specs.Infer.{infer, same-term, conclusion}
+use Rattle.logic.specs.Sentences.{Sentences}
+
+pub sentences : Sentences
+unfolding infer same-term conclusion read too-deep shift fillAt occurs size encode ℕ-discrete
+sentences = record {
+  prop = refl;
+  type = refl;
+  string = refl;
+  prin = refl;
+  text = refl;
+  name = refl;
+  variable = refl;
+  constant = refl;
+  says = refl;
+  says-by-string = refl;
+  says-string = refl;
+  says-kind = refl;
+  pi-prop = refl;
+  pi-kind = refl;
+  pi-over-proofs = refl;
+  pi-over-props = refl;
+  pi-over-types = refl;
+  pi-over-properties = refl;
+  pi-over-string = refl;
+  pi-of-type = refl;
+  lam = refl;
+  lam-over-types = refl;
+  lam-of-prop = refl;
+  app = refl;
+  app-raised = refl;
+  app-of-string = refl;
+  app-to-principal = refl;
+  signed = refl;
+  sign-string = refl;
+  ret = refl;
+  ret-by-string = refl;
+  ret-string = refl;
+  bind = refl;
+  bind-lowered = refl;
+  bind-of-string = refl;
+  bind-to-string = refl;
+  bind-by-other = refl;
+}

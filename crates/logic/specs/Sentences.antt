@@ -1,0 +1,69 @@
+-- Document 01's section on typing, a sentence at a time: what each rule types and where it breaks, by literals, with the
+-- sample signature. proofs/Sentences computes them, so that they rest on no other proof.
+use mathlib.Core.Path.{_≡_}
+use Rattle.logic.specs.Result.{ok, refused}
+use Rattle.logic.specs.Term.{Term, var, sign, P, T′, S, N, KindP, KindT, Const, Text, Name, Says, Pi, Lam, App, Ret, Bind, encode}
+use Rattle.logic.specs.Worked.{sample, consent}
+use Rattle.logic.specs.Order.{answer-to}
+
+infixl 5 _has-type_
+-- the words of t have the type A
+abbrev pub _has-type_ : Term → Term → Type 0
+t has-type A = answer-to sample (encode t) ≡ ok A
+
+-- a condition of the node at word 0 breaks
+abbrev pub Breaks : Term → Type 0
+Breaks t = answer-to sample (encode t) ≡ refused 11 0
+
+-- a function whose type has its argument's variable under a binder
+abbrev pub told-to-all : Term
+told-to-all = Pi S (Pi N (Says (var 0) (App (Const 2) (var 1))))
+
+pub record Sentences : Type 0 where
+  -- "P : KindP. T : KindT. S : T. N : T. sn : S. an : N."
+  pub prop : P has-type KindP
+  pub type : T′ has-type KindT
+  pub string : S has-type T′
+  pub prin : N has-type T′
+  pub text : Text 7 has-type S
+  pub name : Name 3 has-type N
+  -- "Vn has its binder's type, shifted up n + 1. Cn has its declared type."
+  pub variable : Lam P (Lam (var 0) (Lam (var 1) (var 1))) has-type Pi P (Pi (var 0) (Pi (var 1) (var 2)))
+  pub constant : Const 3 has-type Pi consent P
+  -- "Says a Q : P if a : N and Q : P."
+  pub says : Says (Name 3) consent has-type P
+  pub says-by-string : Breaks (Says (Text 7) consent)
+  pub says-string : Breaks (Says (Name 3) (Text 7))
+  pub says-kind : Breaks (Says (Name 3) P)
+  -- "Pi d b has the type of b, if that is P or KindP, and d has type T or P, or d is the word P itself."
+  pub pi-prop : Pi S consent has-type P
+  pub pi-kind : Pi S P has-type KindP
+  pub pi-over-proofs : Pi consent consent has-type P
+  pub pi-over-props : Pi P (var 0) has-type P
+  pub pi-over-types : Breaks (Pi T′ consent)
+  pub pi-over-properties : Breaks (Pi (Pi S P) (App (var 0) (Text 7)))
+  pub pi-over-string : Breaks (Pi (Text 7) consent)
+  pub pi-of-type : Breaks (Pi S S)
+  -- "Lam d b : Pi d B if d obeys the same condition, b : B and B : P."
+  pub lam : Lam consent (var 0) has-type Pi consent consent
+  pub lam-over-types : Breaks (Lam T′ (var 0))
+  pub lam-of-prop : Breaks (Lam S consent)
+  -- "App f e is typed if f : Pi d B and e : d; its type is B filled with e", the filler raised under each binder
+  pub app : App (Const 1) (Text 7) has-type Pi S P
+  pub app-raised : Lam S (Lam told-to-all (App (var 0) (var 1))) has-type Pi S (Pi told-to-all (Pi N (Says (var 0) (App (Const 2) (var 2)))))
+  pub app-of-string : Breaks (App (Text 7) (Text 7))
+  pub app-to-principal : Breaks (App (Const 2) (Name 3))
+  -- "Signn Q : Says an Q if Q : P with no variables in scope."
+  pub signed : sign 3 consent has-type Says (Name 3) consent
+  pub sign-string : Breaks (sign 3 (Text 7))
+  -- "Ret a e : Says a Q if a : N, e : Q and Q : P."
+  pub ret : Lam consent (Ret (Name 3) (var 0)) has-type Pi consent (Says (Name 3) consent)
+  pub ret-by-string : Breaks (Ret (Text 7) (sign 3 consent))
+  pub ret-string : Breaks (Ret (Name 0) (Text 7))
+  -- "Bind e b: e : Says a Q; under a binder of type Q, b : Says a R, with a shifted and variable 0 not in R; the result is
+  -- Says a R shifted down 1."
+  pub bind : Lam N (Lam (Says (var 0) consent) (Bind (var 0) (Ret (var 2) (var 0)))) has-type Pi N (Pi (Says (var 0) consent) (Says (var 1) consent))
+  pub bind-lowered : Lam P (Lam (var 0) (Bind (sign 3 consent) (Ret (Name 3) (var 1)))) has-type Pi P (Pi (var 0) (Says (Name 3) (var 1)))
+  pub bind-of-string : Breaks (Bind (Text 7) (Ret (Name 3) (var 0)))
+  pub bind-to-string : Breaks (Bind (sign 3 consent) (Text 7))
+  pub bind-by-other : Breaks (Bind (sign 3 consent) (Ret (Name 4) (var 0)))
