@@ -5,5 +5,3 @@ pub mod Scopes
 pub mod Variables
 pub mod Atoms
 pub mod Enters
-pub mod Results
-pub mod Formings

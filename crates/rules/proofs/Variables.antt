@@ -23,7 +23,7 @@ use Rattle.words.specs.Place.{At, Is, written}
 use Rattle.words.specs.Lookup.{partOf}
 use Rattle.moves.specs.Shift.{Shifted}
 use Rattle.words.proofs.Lists.{written-front}
-use Rattle.words.proofs.Places.{is-at}
+use Rattle.words.proofs.Places.{is-at, part-is}
 use Rattle.moves.proofs.Shifts.{size-shift, length-shift}
 use Rattle.rules.specs.Rule.{variable-type}
 use Rattle.rules.specs.Scope.{tail, scope-words, entry-head}
@@ -32,7 +32,6 @@ use Rattle.rules.specs.Variable.{Found, Raises}
 use Rattle.rules.specs.declared.derivation.Derivation.{Derivation}
 use Rattle.rules.specs.declared.derivation.Derivation.the-variants.{Typed, Refused}
 use Rattle.rules.proofs.Fronts.{measured-fits, measured-long, refuses, writes}
-use Rattle.rules.proofs.Results.{part-is}
 use Rattle.rules.proofs.Scopes.{drop-take, scope-length, entry-at, no-binders}
 
 first-of-rest : (Γ : List Term) (n : ℕ) → getElem? (drop n Γ) 0 ≡ getElem? Γ n
@@ -126,8 +125,8 @@ module _ {proof ws : List ℕ} {kept n : ℕ} {Γ : List Term} (at : ℕ) (e : E
       → part ≡ partOf proof ws (ltb entry-head (getD ws (length ws - kept) 0)) from (from + getD ws (length ws - kept + 2) 0) → Is part (e .type)
   looked-up {from} {part} f p =
       let b : Bool = ltb entry-head (getD ws (length ws - kept) 0) in
-      subst (λ (x : List ℕ). Is x (e .type)) (sym p)
-      (part-is (pick b ws proof) from (from + getD ws (length ws - kept + 2) 0) (e .type) (subst (λ (i : ℕ). At (pick b ws proof) i (e .type)) (sym f) (e .here)) (ap (λ (k : ℕ). from + k) (e .type-words)))
+      let h : At (pick b ws proof) from (e .type) = subst (λ (i : ℕ). At (pick b ws proof) i (e .type)) (sym f) (e .here) in
+      subst (λ (x : List ℕ). Is x (e .type)) (sym p) (record { plain = h .plain; words = part-is (from + getD ws (length ws - kept + 2) 0) h (ap (λ (k : ℕ). from + k) (e .type-words)) })
 
   pub variable-found : {part new : List ℕ} {r : Derivation} → getD ws (length ws - kept + 2) 0 ≤ most-type-words → Is part (e .type)
       → ((A : Term) → Is part A → PlainType (raise (suc n) A) → Formed (ok (raise (suc n) A)) (at + 1) ws new r) → Raises Γ n → Formed (variable-type Γ at n) (at + 1) ws new r

@@ -5,4 +5,3 @@ pub mod Form
 pub mod Variable
 pub mod Atoms
 pub mod Enter
-pub mod Results

@@ -39,7 +39,7 @@ use Rattle.rules.specs.Scope.{tail, scope-words, entry-head, Binders, no-binder
 use Rattle.rules.specs.Form.{derivation-answer, Front, Formed, front-words, level-words}
 use Rattle.typing.specs.Derive.{Derived, Ready}
 use Rattle.rules.specs.Variable.{Raises}
-use Rattle.rules.specs.Results.{Signs, First, Forms, Formable}
+use Rattle.results.specs.Results.{Signs, First, Forms, Formable}
 use Rattle.rules.specs.Enter.{Enters, keep-of, entered-answer, Entry-kept, Entering}
 use Rattle.rules.proofs.Fronts.{typed-by, refused-by}
 use Rattle.rules.specs.declared.derivation.Derivation.{Derivation}

@@ -27,9 +27,9 @@ use Rattle.typing.proofs.derive.derive.Kinds as kinds
 use Rattle.typing.proofs.derive.+derive.Lts-derive as lts
 use Rattle.rules.proofs.atom.atom.Reads as atom-reads
 use Rattle.rules.proofs.enter.enter.Reads as enter-reads
-use Rattle.rules.proofs.formed.formed.Reads as formed-reads
+use Rattle.results.proofs.formed.formed.Reads as formed-reads
 use Rattle.rules.proofs.scope.variable.Reads as variable-reads
-use Rattle.rules.proofs.sign.sign.Reads as sign-reads
+use Rattle.results.proofs.sign.sign.Reads as sign-reads
 use Rattle.logic.proofs.word.kind.Reads as kind-reads
 use Rattle.logic.proofs.word.payload_of.Reads as payload-of-reads
 use Rattle.typing.proofs.derive.+derive.{statement}

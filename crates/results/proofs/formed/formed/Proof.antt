@@ -9,9 +9,9 @@ use Rattle.logic.specs.Infer.{same}
 use Rattle.logic.specs.Term.{propA, kindPA, lamO, appO, retO, bindO, Term, P, KindP, opWord, size}
 use Rattle.words.specs.Typed.{TypeAt}
 use Rattle.words.proofs.Types.{at-type, type-within}
-use Rattle.rules.proofs.Formings.{formed-app, formed-bind, formed-lam, formed-ret, appliable, bindable, pairable, formed-prop, formed-no-says, formed-kind, formed-no-pi}
-use Rattle.rules.proofs.formed.formed.Statement.{statement}
-use Rattle.rules.proofs.formed.formed.Tie as tie
+use Rattle.results.proofs.Formings.{formed-app, formed-bind, formed-lam, formed-ret, appliable, bindable, pairable, formed-prop, formed-no-says, formed-kind, formed-no-pi}
+use Rattle.results.proofs.formed.formed.Statement.{statement}
+use Rattle.results.proofs.formed.formed.Tie as tie
 
 within : (s : tie.Start) → s .args .at < length (s .args .proof .now)
 within s = type-within (at-type (s .pre .forms .here))

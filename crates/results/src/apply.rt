@@ -1,17 +1,17 @@
 // The result of an App.
-use crate::derivation::Derivation;
-use crate::front::SMALL;
 use logic::limit::MOST_TYPE_WORDS;
 use logic::refusal::CONDITION_FAILS;
 use logic::refusal::TYPE_TOO_LONG;
 use moves::fill::Filled;
 use moves::fill::fill_into;
+use rules::derivation::Derivation;
+use rules::front::SMALL;
 use words::part::copy;
 use words::part::same;
 ghost use Rattle.logic.specs.Term.{Term};
 ghost use Rattle.rules.specs.Rule.{applied};
 ghost use Rattle.rules.specs.Form.{Formed};
-ghost use Rattle.rules.specs.Results.{Applies, Appliable};
+ghost use Rattle.results.specs.Results.{Applies, Appliable};
 
 // The type of an App, at the front of the workspace, or the refusal. The function's type is the first n words of the workspace, the argument's type the m after them; the argument stands at `next` in the proof, up to `end`.
 pub fn apply(

@@ -1,8 +1,6 @@
 // The result of a node, from its children and their types.
 use crate::apply::apply;
 use crate::bind::bind;
-use crate::derivation::Derivation;
-use crate::front::front_is;
 use crate::pair::pair;
 use logic::refusal::CONDITION_FAILS;
 use logic::word::PAYLOADS;
@@ -14,10 +12,12 @@ use logic::word::TAG_PI;
 use logic::word::TAG_PROP;
 use logic::word::TAG_RET;
 use logic::word::TAG_SAYS;
+use rules::derivation::Derivation;
+use rules::front::front_is;
 ghost use Rattle.logic.specs.Term.{Op, Term};
 ghost use Rattle.rules.specs.Rule.{formed as formedBy};
 ghost use Rattle.rules.specs.Form.{Formed};
-ghost use Rattle.rules.specs.Results.{Forms, Formable};
+ghost use Rattle.results.specs.Results.{Forms, Formable};
 
 // The type of a node, at the front of the workspace, or the refusal. The node stands at `at` in the proof, up to `end`, its second child from `next` on. The second child's type has m words, at the front of the
 // workspace; of an App, they stand behind the n words of its function's type.

@@ -1,6 +1,4 @@
 // The result of a Sign.
-use crate::derivation::Derivation;
-use crate::front::front_is;
 use logic::limit::MOST_TYPE_WORDS;
 use logic::refusal::CONDITION_FAILS;
 use logic::refusal::TYPE_TOO_LONG;
@@ -9,12 +7,14 @@ use logic::word::TAG_NAME;
 use logic::word::TAG_PROP;
 use logic::word::TAG_SAYS;
 use logic::word::payload_of;
+use rules::derivation::Derivation;
+use rules::front::front_is;
 use words::part::copy;
 ghost use Prim.Native.Nat.{ℕ};
 ghost use Rattle.logic.specs.Term.{Term};
 ghost use Rattle.rules.specs.Rule.{sign-type};
 ghost use Rattle.rules.specs.Form.{Formed};
-ghost use Rattle.rules.specs.Results.{Signs, Signable};
+ghost use Rattle.results.specs.Results.{Signs, Signable};
 
 // The type of a Sign, at the front of the workspace, or the refusal. The Sign stands in the proof at `at`, up to `end`; its proposition's type is the first n words of the workspace.
 pub fn sign(proof: &[u32], ws: &mut [u32], at: usize, n: usize, end: usize) -> Derivation

@@ -8,11 +8,11 @@ use Rattle.logic.specs.Infer.{proposition}
 use Rattle.logic.specs.Limits.{most-words, most-type-words}
 use Rattle.logic.specs.Term.{Term}
 use Rattle.words.proofs.Places.{at-end, size-pos}
 use Rattle.rules.specs.Form.{front-words}
-use Rattle.rules.specs.Results.{Pairs}
-use Rattle.rules.proofs.Results.{pair-unlike, pair-long, pair-done}
-use Rattle.rules.proofs.pair.pair.Statement.{statement}
-use Rattle.rules.proofs.pair.pair.Tie as tie
+use Rattle.results.specs.Results.{Pairs}
+use Rattle.results.proofs.Results.{pair-unlike, pair-long, pair-done}
+use Rattle.results.proofs.pair.pair.Statement.{statement}
+use Rattle.results.proofs.pair.pair.Tie as tie
 
 -- the numbers of the first child and of the second's type that `requires` brought
 record Sizes (len plen at next m : ℕ) : Type 0 where

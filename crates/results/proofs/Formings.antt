@@ -19,15 +19,15 @@ use Rattle.logic.proofs.Proposition.{same-true}
 use Rattle.words.specs.Place.{At}
 use Rattle.words.specs.Typed.{TypeAt}
 use Rattle.words.proofs.Places.{at-head, at-left, at-right}
 use Rattle.rules.specs.Rule.{first, second, paired, applied, bound, formed}
 use Rattle.rules.specs.Scope.{entry-head}
 use Rattle.rules.specs.Form.{front-words, Formed}
 use Rattle.rules.specs.Enter.{keep-of}
-use Rattle.rules.specs.Results.{Applies, Appliable, Pairs, Pairable, Binds, Bindable, Forms, Formable}
+use Rattle.results.specs.Results.{Applies, Appliable, Pairs, Pairable, Binds, Bindable, Forms, Formable}
 use Rattle.rules.specs.declared.derivation.Derivation.{Derivation}
 use Rattle.rules.specs.declared.derivation.Derivation.the-variants.{Typed, Refused}
 use Rattle.rules.proofs.Fronts.{fails, measured-fits, refuses, types}
-use Rattle.rules.proofs.Results.{node-plain}
+use Rattle.results.proofs.Results.{node-plain}
 
 op-shape : (o : Op) → shape (opWord o) ≡ branch o
 op-shape saysO = refl

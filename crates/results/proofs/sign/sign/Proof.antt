@@ -7,11 +7,11 @@ use Rattle.logic.specs.Infer.{same}
 use Rattle.logic.specs.Limits.{most-words}
 use Rattle.logic.specs.Term.{propA, saysO, Term, P, opWord, size}
 use Rattle.words.proofs.Places.{at-end, size-pos}
 use Rattle.rules.specs.Form.{front-words}
-use Rattle.rules.specs.Results.{Signs}
-use Rattle.rules.proofs.Results.{sign-unlike, sign-long, sign-done}
-use Rattle.rules.proofs.sign.sign.Statement.{statement}
-use Rattle.rules.proofs.sign.sign.Tie as tie
+use Rattle.results.specs.Results.{Signs}
+use Rattle.results.proofs.Results.{sign-unlike, sign-long, sign-done}
+use Rattle.results.proofs.sign.sign.Statement.{statement}
+use Rattle.results.proofs.sign.sign.Tie as tie
 
 -- the numbers of the Sign that `requires` brought
 record Sizes (len plen at end : ℕ) : Type 0 where

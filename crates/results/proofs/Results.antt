@@ -33,29 +33,23 @@ use Rattle.moves.specs.Occurrence.{absent}
 use Rattle.moves.specs.declared.fill.Filled.{Filled}
 use Rattle.moves.specs.declared.fill.Filled.the-variants.{Done, Over}
 use Rattle.words.proofs.Lists.{written-cons, written-node, written-front}
-use Rattle.words.proofs.Places.{size-pos, words-head, at-head, at-part, at-sign, at-left, at-right}
+use Rattle.words.proofs.Places.{size-pos, words-head, at-head, at-part, part-is, at-sign, at-left, at-right}
 use Rattle.words.proofs.Types.{in-range}
 use Rattle.moves.proofs.Shifts.{size-shift, length-shift}
 use Rattle.moves.proofs.Fills.{done-is, over-is}
 use Rattle.moves.proofs.Occurrences.{absent-is, present-is}
 use Rattle.rules.specs.Rule.{sign-type, paired, applied, bound}
 use Rattle.rules.specs.Scope.{entry-head}
 use Rattle.rules.specs.Form.{front-words, Formed}
-use Rattle.rules.specs.Results.{Applies, Pairs, Binds, Signs}
+use Rattle.results.specs.Results.{Applies, Pairs, Binds, Signs}
 use Rattle.rules.specs.declared.derivation.Derivation.the-variants.{Typed, Refused}
 use Rattle.rules.proofs.Fronts.{denied, type-part, written-kept, written-there, fails, measured-fits, measured-long, refuses, writes}
 
 -- ---- words and terms
 
 -- two terms begin in the same place: they are the same where the first's words are those that stand there
 pub begins : (xs rest : List ℕ) (k : ℕ) (s t : Term) → InRange s → InRange t → take k xs ≡ encode s → xs ≡ encode t ++ rest → s ≡ t
 begins xs rest k s t p q e f = prefix-free s t (drop k xs) rest p q (ap (λ (l : List ℕ). l ++ drop k xs) (sym e) ∙ take-append-drop k xs ∙ f) .0
-
--- a part that runs to a term's end is the term's words
-pub part-is : (ws : List ℕ) (a e : ℕ) (t : Term) → At ws a t → e ≡ a + size t → Is (take (e - a) (drop a ws)) t
-part-is ws a e t h q =
-    let d : e - a ≡ size t = omega arith in
-    record { plain = h .plain; words = ap (λ (i : ℕ). take i (drop a ws)) d ∙ at-part h }
 
 -- ---- an App
 
@@ -102,7 +96,7 @@ module _ (proof ws : List ℕ) (at next n m end : ℕ) (d C e E : Term) (j : App
     body-at = subst (λ (i : ℕ). At ws i C) (ap (λ (i : ℕ). 1 + i) (sym (j .argument-words ∙ ap size domain-is))) (at-right (j .function))
 
     pub argument-is : Is (take (end - next) (drop next proof)) e
-    argument-is = part-is proof next end e (j .here) (j .end-is)
+    argument-is = record { plain = j .here .plain; words = part-is end (j .here) (j .end-is) }
 
     filled-type : (o : Result Term) → measured at (fill C e) ≡ o → applied at d C e E ≡ o
     filled-type o q = pass condition-fails at (same-yes domain-is) q

@@ -1,15 +1,15 @@
 // The result of a Bind.
-use crate::derivation::Derivation;
-use crate::scope::ENTRY_HEAD;
 use logic::refusal::CONDITION_FAILS;
 use moves::occurrence::Occurrence;
 use moves::occurrence::occurs;
 use moves::shift::shift_within;
+use rules::derivation::Derivation;
+use rules::scope::ENTRY_HEAD;
 use words::part::same;
 ghost use Rattle.logic.specs.Term.{Term};
 ghost use Rattle.rules.specs.Rule.{bound};
 ghost use Rattle.rules.specs.Form.{Formed};
-ghost use Rattle.rules.specs.Results.{Binds, Bindable};
+ghost use Rattle.results.specs.Results.{Binds, Bindable};
 
 // The type of a Bind, at the front of the workspace, or the refusal. The body's type is the first m words of the workspace; the proof's type Says p q, with p raised, is kept in the nearest binder's entry,
 // with which the `used` words at the end begin.

@@ -1,16 +1,16 @@
 // The results of a Lam and of a Ret: a node of the first child and of the second's type.
-use crate::derivation::Derivation;
 use logic::limit::MOST_TYPE_WORDS;
 use logic::refusal::CONDITION_FAILS;
 use logic::refusal::TYPE_TOO_LONG;
+use rules::derivation::Derivation;
 use words::part::copy;
 use words::part::copy_within;
 use words::proposition::proposition;
 ghost use mathlib.Core.Path.{_≡_};
 ghost use Rattle.logic.specs.Term.{Op, Term, opWord};
 ghost use Rattle.rules.specs.Rule.{paired};
 ghost use Rattle.rules.specs.Form.{Formed};
-ghost use Rattle.rules.specs.Results.{Pairs, Pairable};
+ghost use Rattle.results.specs.Results.{Pairs, Pairable};
 
 // The type that begins with the word `head`, at the front of the workspace, or the refusal. The first child stands in the proof behind `at`, up to `next`; the second's type is the first m words of the workspace.
 pub fn pair(

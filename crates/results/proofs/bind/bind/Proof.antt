@@ -9,11 +9,11 @@ use Rattle.logic.specs.Limits.{most-type-words}
 use Rattle.logic.specs.Term.{size}
 use Rattle.words.proofs.Places.{size-pos, at-end}
 use Rattle.moves.specs.Occurrence.{occurrence-answer}
 use Rattle.rules.specs.Scope.{entry-head}
 use Rattle.rules.specs.Form.{front-words}
-use Rattle.rules.proofs.Results.{total-is, kept-size, said-is, kept-inside, said-size, bind-short, bind-differs, saying, said-at, right-at, bind-present, bind-absent}
-use Rattle.rules.proofs.bind.bind.Statement.{statement}
-use Rattle.rules.proofs.bind.bind.Tie as tie
+use Rattle.results.proofs.Results.{total-is, kept-size, said-is, kept-inside, said-size, bind-short, bind-differs, saying, said-at, right-at, bind-present, bind-absent}
+use Rattle.results.proofs.bind.bind.Statement.{statement}
+use Rattle.results.proofs.bind.bind.Tie as tie
 
 -- the word Says and the principal's words
 abbrev said : tie.Start → ℕ

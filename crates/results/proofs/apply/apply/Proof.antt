@@ -10,11 +10,11 @@ use Rattle.logic.specs.Term.{Term, size}
 use Rattle.moves.specs.Fill.{Fillable, FilledTo}
 use Rattle.moves.proofs.Fills.{done-is}
 use Rattle.words.proofs.Places.{at-end, size-is}
 use Rattle.rules.specs.Form.{front-words}
-use Rattle.rules.specs.Results.{Applies}
-use Rattle.rules.proofs.Results.{function-size, apply-short, apply-differs, body-at, argument-is, apply-over, apply-done}
-use Rattle.rules.proofs.apply.apply.Statement.{statement}
-use Rattle.rules.proofs.apply.apply.Tie as tie
+use Rattle.results.specs.Results.{Applies}
+use Rattle.results.proofs.Results.{function-size, apply-short, apply-differs, body-at, argument-is, apply-over, apply-done}
+use Rattle.results.proofs.apply.apply.Statement.{statement}
+use Rattle.results.proofs.apply.apply.Tie as tie
 
 -- the numbers of the types that `requires` brought
 record Sizes (len plen n m next end C e : ℕ) : Type 0 where
