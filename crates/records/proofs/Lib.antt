@@ -3,6 +3,3 @@ pub mod Walks
 pub mod Stands
 pub mod Scans
 pub mod Adds
-pub mod RuleList
-pub mod Openings
-pub mod Writes

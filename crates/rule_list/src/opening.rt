@@ -1,11 +1,11 @@
 // What the rules of a rule list hold and take, before anything is written.
-use crate::format::HEADER;
-use crate::format::RULE_HEAD;
-use crate::format::STATEMENT_WORDS;
-use crate::search::Unheld;
 use logic::word::SIGN;
 use logic::word::kind;
 use logic::word::payload_of;
+use records::format::HEADER;
+use records::format::RULE_HEAD;
+use records::format::STATEMENT_WORDS;
+use records::search::Unheld;
 use words::part::same;
 use words::part::skip;
 ghost use mathlib.Core.Path.{_≡_};
@@ -17,7 +17,8 @@ ghost use Rattle.register.specs.Records.{header, words-of, held, statement, rul
 ghost use Rattle.register.specs.Records.{states as statesOf};
 ghost use Rattle.register.specs.Calls.{signs-held};
 ghost use Rattle.register.specs.History.{rules-of};
-ghost use Rattle.records.specs.Answers.{IsTerm, WholeRules, unheld-answer};
+ghost use Rattle.records.specs.Answers.{IsTerm, unheld-answer};
+ghost use Rattle.rule_list.specs.Rules.{WholeRules};
 
 // Whether a rule of this principal with these words is the statement sought.
 pub fn rule_states(of: u32, rule: &[u32], principal: u32, words: &[u32]) -> bool

@@ -3,9 +3,9 @@ use mathlib.Core.Path.{_∙_, sym}
 use native.Mathlib.Omega.{arith}
 use lib.ListN.{length}
 use borrow.Author.Needs.{needs}
-use Rattle.records.proofs.RuleList.{Seeking, seeking-start, seeking-within, seeking-found, seeking-turn, seeking-end, Within}
-use Rattle.records.proofs.opening.rule_held.Statement.{statement}
-use Rattle.records.proofs.opening.rule_held.Tie as tie
+use Rattle.rule_list.proofs.RuleList.{Seeking, seeking-start, seeking-within, seeking-found, seeking-turn, seeking-end, Within}
+use Rattle.rule_list.proofs.opening.rule_held.Statement.{statement}
+use Rattle.rule_list.proofs.opening.rule_held.Tie as tie
 
 abbrev Inv-loop : tie.InvT-loop
 Inv-loop rules principal words at₀ at = Seeking rules at principal words

@@ -7,11 +7,11 @@ use borrow.Author.Needs.{needs}
 use borrow.Author.Tests.{not-true, not-false}
 use Rattle.words.specs.Place.{Stands}
 use Rattle.words.proofs.Places.{at-end}
 use Rattle.records.proofs.Scans.{Scanning, scanning-start, scanning-other, scanning-sign, scanning-next, scanning-found, scanning-end}
 use Rattle.register.specs.History.{rules-of}
-use Rattle.records.proofs.RuleList.{Gives, given-held}
-use Rattle.records.proofs.opening.first_unheld_rule.Statement.{statement}
-use Rattle.records.proofs.opening.first_unheld_rule.Tie as tie
+use Rattle.rule_list.proofs.RuleList.{Gives, given-held}
+use Rattle.rule_list.proofs.opening.first_unheld_rule.Statement.{statement}
+use Rattle.rule_list.proofs.opening.first_unheld_rule.Tie as tie
 
 abbrev Inv-loop : tie.InvT-loop
 Inv-loop rules term i₀ i = (i ≤ length term) × Scanning (Gives rules) term i

@@ -1,7 +1,7 @@
 use borrow.Author.Needs.{needs}
-use Rattle.records.proofs.RuleList.{states-other, states-same}
-use Rattle.records.proofs.opening.rule_states.Statement.{statement}
-use Rattle.records.proofs.opening.rule_states.Tie as tie
+use Rattle.rule_list.proofs.RuleList.{states-other, states-same}
+use Rattle.rule_list.proofs.opening.rule_states.Statement.{statement}
+use Rattle.rule_list.proofs.opening.rule_states.Tie as tie
 
 returns : tie.Need-returns
 returns c = let a = c .before .before .before .args in states-other (a .principal) (a .of) (a .words .now) (a .rule .now) (c .if1 .taken)

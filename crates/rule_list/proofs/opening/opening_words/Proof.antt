@@ -5,9 +5,9 @@ use lib.ListN.{length}
 use lib.Seq.{length-take-le}
 use borrow.Author.Needs.{needs}
 use borrow.Author.Tests.{not-true, not-false}
-use Rattle.records.proofs.RuleList.{Within, Counting, counting-start, counting-within, counting-held, counting-added, counting-end}
-use Rattle.records.proofs.opening.opening_words.Statement.{statement}
-use Rattle.records.proofs.opening.opening_words.Tie as tie
+use Rattle.rule_list.proofs.RuleList.{Within, Counting, counting-start, counting-within, counting-held, counting-added, counting-end}
+use Rattle.rule_list.proofs.opening.opening_words.Statement.{statement}
+use Rattle.rule_list.proofs.opening.opening_words.Tie as tie
 
 abbrev Inv-loop : tie.InvT-loop
 Inv-loop rules total₀ at₀ total at = (at ≤ length rules) × Counting rules at total

@@ -1,0 +1,4 @@
+-- Laws of rule lists, one for each step of the code.
+pub mod RuleList
+pub mod Openings
+pub mod Writes

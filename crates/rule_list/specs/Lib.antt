@@ -1,0 +1,2 @@
+-- What the code on a rule list is asked.
+pub mod Rules
