@@ -35,7 +35,7 @@ pub accepted-named : {Σ Σ′ : List Term} {ws : List ℕ} → AllNamed Σ → 
 accepted-named g no-more = g
 accepted-named {Σ} g (one-more {A} l w D m ls) = accepted-named (named-append Σ A g (plain-in-range A (w .plain))) ls
 
-at-constant-ok : {X : Type 0} (at : ℕ) (r : Result X) {x : X} → at-constant at r ≡ ok x → r ≡ ok x
+pub at-constant-ok : {X : Type 0} (at : ℕ) (r : Result X) {x : X} → at-constant at r ≡ ok x → r ≡ ok x
 at-constant-ok at (ok x) e = e
 at-constant-ok at (refused m p) e = absurd (not-ok e)
 

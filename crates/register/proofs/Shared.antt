@@ -2,8 +2,8 @@
 use Prim.Native.Nat.{ℕ, _≤_}
 use mathlib.Core.Path.{_≡_, refl, _∙_, ap}
 use mathlib.Core.Logic.{_↔_}
-use mathlib.Core.Bool.{_&&_}
-use mathlib.Core.List.{List}
+use mathlib.Core.Bool.{true, _&&_}
+use mathlib.Core.List.{List, []}
 use mathlib.Core.Option.{none}
 use lib.Dec.{leb}
 use lib.ListN.{length}
@@ -16,7 +16,8 @@ use Rattle.logic.specs.Reading.{first-unheld}
 use Rattle.logic.proofs.Results.{not-ok, bound, tested, bind-is, pass, both-true, true-both}
 use Rattle.logic.proofs.Signatures.{empty-signature}
 use Rattle.logic.proofs.Searches.{first-unheld-right}
-use Rattle.logic.specs.SignatureList.{signature, operations, operations-test}
+use Rattle.logic.proofs.Refused.{inside}
+use Rattle.logic.specs.SignatureList.{Lists, signature, operations, operations-test}
 use Rattle.register.specs.Records.{Record, register-records, Unbroken, used, held}
 use Rattle.register.specs.Calls.{Lent, View, view, shared, on-register}
 use Rattle.register.specs.Succeeds.{Ready, SignsHeld}
@@ -30,24 +31,28 @@ pub signature-of : {l : Lent} {len : ℕ} {Σ : List Term} → Ready l len Σ �
 signature-of r = well-formed empty-signature (r .accepted)
 
 module _ (l : Lent) (len used : ℕ) where
-  -- where they passed, what is lent is ready, and the call's own tests decide
+  -- where they passed, what is lent is ready
+  pub made-ready : {Σ : List Term} → least-workspace ≤ l .workspace → (least-register ≤ len) × (len ≤ most-register) → Lists [] (l .sig) Σ → operations-test Σ (l .n) ≡ true → Ready l len Σ
+  made-ready {Σ} long size lists e =
+      let (n, ops) = both-true (leb 1 (l .n) && leb (l .n) most-operations) (operations Σ (l .n)) e in
+      let (one, most) = inside 1 most-operations (l .n) n in
+      record {
+        workspace = long;
+        not-shorter = size .0;
+        not-longer = size .1;
+        accepted = lists;
+        some-operation = one;
+        not-more = most;
+        permits = λ i h. operations-ok Σ (l .n) ops i h .0;
+        receipts = λ i h. operations-ok Σ (l .n) ops i h .1;
+      }
+
+  -- and the call's own tests decide
   pub shared-ok : {Y Z : Type 0} (rs : List Record) (own : View → Result Y) {y : Y} → shared l len used (ok rs) own ≡ ok y → ((Σ : List Term) → Ready l len Σ → own (view l len used rs Σ) ≡ ok y → Z) → Z
   shared-ok rs own e f =
       tested (leb least-workspace (l .workspace)) _ _ _ e λ w e₁. tested (leb least-register len && leb len most-register) _ _ _ e₁ λ range e₂.
       bound (signature (l .sig)) _ e₂ λ Σ a e₃. tested (operations-test Σ (l .n)) _ _ _ e₃ λ o e₄.
-      let (low, high) = both-true (leb least-register len) (leb len most-register) range in
-      let (n, ops) = both-true (leb 1 (l .n) && leb (l .n) most-operations) (operations Σ (l .n)) o in
-      let (one, most) = both-true (leb 1 (l .n)) (leb (l .n) most-operations) n in
-      f Σ (record {
-        workspace = leb-true least-workspace (l .workspace) w;
-        not-shorter = leb-true least-register len low;
-        not-longer = leb-true len most-register high;
-        accepted = signature-right (l .sig) Σ .0 a;
-        some-operation = leb-true 1 (l .n) one;
-        not-more = leb-true (l .n) most-operations most;
-        permits = λ i h. operations-ok Σ (l .n) ops i h .0;
-        receipts = λ i h. operations-ok Σ (l .n) ops i h .1;
-      }) e₄
+      f Σ (made-ready (leb-true least-workspace (l .workspace) w) (inside least-register most-register len range) (signature-right (l .sig) Σ .0 a) o) e₄
 
   pub shared-is : {Y : Type 0} {y : Result Y} {Σ : List Term} (rs : List Record) (own : View → Result Y) → Ready l len Σ → own (view l len used rs Σ) ≡ y → shared l len used (ok rs) own ≡ y
   shared-is {Σ} rs own r e =

@@ -19,78 +19,79 @@ with-lent workspace sig n = record { sig = sig; n = n; workspace = workspace }
 abbrev pub lends : Lent
 lends = with-lent 12288 (listed sample) 1
 
--- a constant of no words; a register with a used count past its end; one of two words, with no records
+-- a constant of no words
 abbrev pub no-constant : List ℕ
 no-constant = 0 ∷ []
 
-abbrev pub broken : List ℕ
-broken = 9 ∷ 0 ∷ []
+-- a register with a used count past its end; one of two words, with no records
+abbrev pub broken-register : List ℕ
+broken-register = 9 ∷ 0 ∷ []
 
-abbrev pub empty : List ℕ
-empty = 2 ∷ 0 ∷ []
+abbrev pub empty-register : List ℕ
+empty-register = 2 ∷ 0 ∷ []
 
 -- a proposition in which Sign3 App C2 s7 stands at word 14
 abbrev pub embeds : Term
 embeds = Pi (Pi (Says (Name 3) consent) consent) (App (Const 3) (App (var 0) (sign 3 consent)))
 
 -- a rule as words of a rule list
-abbrev pub rule-words : ℕ → Term → List ℕ
-rule-words a q = a ∷ size q ∷ encode q
+abbrev pub listed-rule : ℕ → Term → List ℕ
+listed-rule a q = a ∷ size q ∷ encode q
 
 pub record CallOrder : Type 0 where
   -- check: 1 to 8, then 9 to 12 as met, then 14
   pub check-1 : check-call (with-lent 12287 no-constant 0) [] [] ≡ refused 1 0
   pub check-2 : check-call (with-lent 12288 no-constant 0) [] [] ≡ refused 2 0
-  pub check-3 : check-call (with-lent 12288 no-constant 0) broken [] ≡ refused 3 0
-  pub check-4 : check-call (with-lent 12288 no-constant 0) empty [] ≡ refused 4 0
-  pub check-5 : check-call (with-lent 12288 (listed sample) 0) empty [] ≡ refused 5 0
-  pub check-6 : check-call lends empty [] ≡ refused 6 0
-  pub check-6-long : check-call lends empty (replicate 2049 0) ≡ refused 6 0
-  pub check-7 : check-call lends empty (replicate 2048 0) ≡ refused 7 0
-  pub check-8 : check-call lends empty (encode (within-signs 32 (var 0))) ≡ refused 8 32
-  pub check-9 : check-call lends empty (encode (sign 3 (var 0))) ≡ refused 9 1
-  pub check-14 : check-call lends empty (encode (sign 3 consent)) ≡ refused 14 0
+  pub check-3 : check-call (with-lent 12288 no-constant 0) broken-register [] ≡ refused 3 0
+  pub check-4 : check-call (with-lent 12288 no-constant 0) empty-register [] ≡ refused 4 0
+  pub check-5 : check-call (with-lent 12288 (listed sample) 0) empty-register [] ≡ refused 5 0
+  pub check-6 : check-call lends empty-register [] ≡ refused 6 0
+  pub check-6-long : check-call lends empty-register (replicate 2049 0) ≡ refused 6 0
+  pub check-7 : check-call lends empty-register (replicate 2048 0) ≡ refused 7 0
+  pub check-8 : check-call lends empty-register (encode (within-signs 32 (var 0))) ≡ refused 8 32
+  pub check-9 : check-call lends empty-register (encode (sign 3 (var 0))) ≡ refused 9 1
+  pub check-14 : check-call lends empty-register (encode (sign 3 consent)) ≡ refused 14 0
   -- request: the same, i, v and u before the proof, and 13, 14, 16
   pub request-1 : request-call (with-lent 12287 no-constant 0) [] 1 16777216 16777216 [] ≡ refused 1 0
   pub request-2 : request-call (with-lent 12288 no-constant 0) [] 1 16777216 16777216 [] ≡ refused 2 0
-  pub request-3 : request-call (with-lent 12288 no-constant 0) broken 1 16777216 16777216 [] ≡ refused 3 0
-  pub request-4 : request-call (with-lent 12288 no-constant 0) empty 1 16777216 16777216 [] ≡ refused 4 0
-  pub request-5-i : request-call lends empty 1 7 9 [] ≡ refused 5 0
-  pub request-5-v : request-call lends empty 0 16777216 9 [] ≡ refused 5 0
-  pub request-5-u : request-call lends empty 0 7 16777216 [] ≡ refused 5 0
-  pub request-6 : request-call lends empty 0 7 9 [] ≡ refused 6 0
-  pub request-9 : request-call lends empty 0 7 9 (encode (sign 3 (var 0))) ≡ refused 9 1
-  pub request-13 : request-call lends empty 0 7 9 (encode (sign 3 consent)) ≡ refused 13 0
-  pub request-14 : request-call lends empty 0 7 9 (encode p) ≡ refused 14 1
+  pub request-3 : request-call (with-lent 12288 no-constant 0) broken-register 1 16777216 16777216 [] ≡ refused 3 0
+  pub request-4 : request-call (with-lent 12288 no-constant 0) empty-register 1 16777216 16777216 [] ≡ refused 4 0
+  pub request-5-i : request-call lends empty-register 1 7 9 [] ≡ refused 5 0
+  pub request-5-v : request-call lends empty-register 0 16777216 9 [] ≡ refused 5 0
+  pub request-5-u : request-call lends empty-register 0 7 16777216 [] ≡ refused 5 0
+  pub request-6 : request-call lends empty-register 0 7 9 [] ≡ refused 6 0
+  pub request-9 : request-call lends empty-register 0 7 9 (encode (sign 3 (var 0))) ≡ refused 9 1
+  pub request-13 : request-call lends empty-register 0 7 9 (encode (sign 3 consent)) ≡ refused 13 0
+  pub request-14 : request-call lends empty-register 0 7 9 (encode p) ≡ refused 14 1
   -- say: 5 for n before 15, 15 before the proposition, whose limits are one less, 14 before 16
   pub say-1 : say-call (with-lent 12287 no-constant 0) [] 0 [] ≡ refused 1 0
   pub say-2 : say-call (with-lent 12288 no-constant 0) [] 0 [] ≡ refused 2 0
-  pub say-3 : say-call (with-lent 12288 no-constant 0) broken 0 [] ≡ refused 3 0
-  pub say-4 : say-call (with-lent 12288 no-constant 0) empty 0 [] ≡ refused 4 0
-  pub say-5 : say-call (with-lent 12288 (listed sample) 0) empty 0 [] ≡ refused 5 0
-  pub say-5-principal : say-call lends empty 16777216 [] ≡ refused 5 0
-  pub say-15 : say-call lends empty 0 [] ≡ refused 15 0
-  pub say-6 : say-call lends empty 4 [] ≡ refused 6 0
-  pub say-6-long : say-call lends empty 4 (replicate 2048 0) ≡ refused 6 0
-  pub say-7 : say-call lends empty 4 (replicate 2047 0) ≡ refused 7 0
-  pub say-8 : say-call lends empty 4 (encode (within-signs 31 (var 0))) ≡ refused 8 31
-  pub say-9 : say-call lends empty 4 (encode (sign 3 (var 0))) ≡ refused 9 1
-  pub say-14 : say-call lends empty 4 (encode embeds) ≡ refused 14 14
-  pub say-16 : say-call lends empty 3 (encode consent) ≡ refused 16 0
+  pub say-3 : say-call (with-lent 12288 no-constant 0) broken-register 0 [] ≡ refused 3 0
+  pub say-4 : say-call (with-lent 12288 no-constant 0) empty-register 0 [] ≡ refused 4 0
+  pub say-5 : say-call (with-lent 12288 (listed sample) 0) empty-register 0 [] ≡ refused 5 0
+  pub say-5-principal : say-call lends empty-register 16777216 [] ≡ refused 5 0
+  pub say-15 : say-call lends empty-register 0 [] ≡ refused 15 0
+  pub say-6 : say-call lends empty-register 4 [] ≡ refused 6 0
+  pub say-6-long : say-call lends empty-register 4 (replicate 2048 0) ≡ refused 6 0
+  pub say-7 : say-call lends empty-register 4 (replicate 2047 0) ≡ refused 7 0
+  pub say-8 : say-call lends empty-register 4 (encode (within-signs 31 (var 0))) ≡ refused 8 31
+  pub say-9 : say-call lends empty-register 4 (encode (sign 3 (var 0))) ≡ refused 9 1
+  pub say-14 : say-call lends empty-register 4 (encode embeds) ≡ refused 14 14
+  pub say-16 : say-call lends empty-register 3 (encode consent) ≡ refused 16 0
   -- open: no 3; then rules in turn, each at its principal word; 16 last
   pub open-1 : open-call (with-lent 12287 no-constant 0) [] (16777216 ∷ []) ≡ refused 1 0
   pub open-2 : open-call (with-lent 12288 no-constant 0) [] (16777216 ∷ []) ≡ refused 2 0
-  pub open-4 : open-call (with-lent 12288 no-constant 0) broken (16777216 ∷ []) ≡ refused 4 0
-  pub open-5 : open-call (with-lent 12288 (listed sample) 0) broken (rule-words 0 rule ++ (16777216 ∷ [])) ≡ refused 5 0
-  pub open-rule-5 : open-call lends broken (rule-words 0 rule ++ (16777216 ∷ 0 ∷ [])) ≡ refused 5 15
-  pub open-rule-6 : open-call lends broken (rule-words 0 rule ++ (0 ∷ 0 ∷ [])) ≡ refused 6 15
-  pub open-rule-6-long : open-call lends broken (rule-words 0 rule ++ (0 ∷ 2048 ∷ [])) ≡ refused 6 15
-  pub open-rule-7 : open-call lends broken (rule-words 0 rule ++ (0 ∷ [])) ≡ refused 7 15
-  pub open-rule-7-cut : open-call lends broken (rule-words 0 rule ++ (0 ∷ 2047 ∷ [])) ≡ refused 7 15
-  pub open-rule-9 : open-call lends broken (rule-words 0 rule ++ rule-words 0 (sign 3 (var 0))) ≡ refused 9 15
-  pub open-rule-14 : open-call lends broken (rule-words 0 rule ++ rule-words 4 embeds ++ (16777216 ∷ [])) ≡ refused 14 15
-  pub open-16 : open-call lends broken (rule-words 0 rule) ≡ refused 16 0
+  pub open-4 : open-call (with-lent 12288 no-constant 0) broken-register (16777216 ∷ []) ≡ refused 4 0
+  pub open-5 : open-call (with-lent 12288 (listed sample) 0) broken-register (listed-rule 0 rule ++ (16777216 ∷ [])) ≡ refused 5 0
+  pub open-rule-5 : open-call lends broken-register (listed-rule 0 rule ++ (16777216 ∷ 0 ∷ [])) ≡ refused 5 15
+  pub open-rule-6 : open-call lends broken-register (listed-rule 0 rule ++ (0 ∷ 0 ∷ [])) ≡ refused 6 15
+  pub open-rule-6-long : open-call lends broken-register (listed-rule 0 rule ++ (0 ∷ 2048 ∷ [])) ≡ refused 6 15
+  pub open-rule-7 : open-call lends broken-register (listed-rule 0 rule ++ (0 ∷ [])) ≡ refused 7 15
+  pub open-rule-7-cut : open-call lends broken-register (listed-rule 0 rule ++ (0 ∷ 2047 ∷ [])) ≡ refused 7 15
+  pub open-rule-9 : open-call lends broken-register (listed-rule 0 rule ++ listed-rule 0 (sign 3 (var 0))) ≡ refused 9 15
+  pub open-rule-14 : open-call lends broken-register (listed-rule 0 rule ++ listed-rule 4 embeds ++ (16777216 ∷ [])) ≡ refused 14 15
+  pub open-16 : open-call lends broken-register (listed-rule 0 rule) ≡ refused 16 0
   -- read: 2, 3, 17
   pub read-2 : read-call [] 0 ≡ refused 2 0
-  pub read-3 : read-call broken 0 ≡ refused 3 0
-  pub read-17 : read-call empty 0 ≡ refused 17 0
+  pub read-3 : read-call broken-register 0 ≡ refused 3 0
+  pub read-17 : read-call empty-register 0 ≡ refused 17 0
