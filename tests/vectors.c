@@ -1,5 +1,6 @@
 // Runs scripts of tests/vectors (PROTOCOL.md there) against the static library: vectors LISTING FILE..
-// Prints a line a file, and each wrong answer with its file and line; the exit status is 1 where an answer was wrong.
+// Prints a line a file, and each wrong answer with its file and line; the exit status is 1 where an answer was wrong, or where a file has
+// no answer of this level, so that nothing was compared.
 // After each call it also compares what was lent with what it was before: the signature and the term, the register where it may not
 // change, the register's words past the used count, and the words behind each buffer.
 #define _POSIX_C_SOURCE 200809L
@@ -10,7 +11,7 @@
 #include <unistd.h>
 #include "../include/aura0.h"
 
-enum { LEVEL = 0, MOST = 1 << 21, GUARD = 16, PATTERN = 0x5a5a5a5a };
+enum { LEVEL = 1, MOST = 1 << 21, GUARD = 16, PATTERN = 0x5a5a5a5a };
 
 // a lent list of words, with a guard behind it, and what it held before the call
 struct lent {
@@ -313,8 +314,10 @@ int main(int count, char **arguments)
         printf("%s: %zu answers, %zu wrong", file, answers, wrong);
         if (skipped > 0)
             printf(", %zu skipped: they are of another level", skipped);
+        if (answers == 0)
+            printf(": wrong: nothing was compared");
         printf("\n");
-        if (wrong > 0)
+        if (wrong > 0 || answers == 0)
             status = 1;
     }
     return status;

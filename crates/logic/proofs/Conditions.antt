@@ -2,14 +2,14 @@
 use Prim.Native.Nat.{ℕ}
 use mathlib.Core.Path.{_≡_, refl, ap}
 use mathlib.Core.Logic.{inl, inr}
-use mathlib.Core.Bool.{true, _||_, or-true}
+use mathlib.Core.Bool.{true, _||_}
 use mathlib.Core.Option.{Option, some, none}
 use lib.Dec.{leb}
 use borrow.Author.Tests.{leb-true, le-leb}
 use Rattle.logic.specs.Limits.{most-type-words}
 use Rattle.logic.specs.Result.{Result, ok, _>>_, require}
 use Rattle.logic.specs.Term.{Op-discrete, Op, Term, atom, var, sign, node, P, T′, KindP, size}
-use Rattle.logic.specs.Typing.{DomainSort, of-type, of-prop, is-prop, BodySort, body-prop, body-kind}
+use Rattle.logic.specs.Typing.{DomainSort, of-type, of-prop, of-kind, BodySort, body-prop, body-kind}
 use Rattle.logic.specs.Infer.{same-term, same, measured, domain, body, Parts, parts}
 use Rattle.logic.specs.Measured.{Small}
 use Rattle.logic.proofs.Basics.{clash, some-inj}
@@ -32,17 +32,17 @@ parts-some o (node h a b) {p} e = go (Op-discrete o h) e
     go (yes q) e = let f = some-inj e in cc (ap (λ p. p .left) f, ap (λ p. p .right) f)
     go (no n) e = absurd (clash (cc))
 
-pub domain-ok : (d s : Term) → domain d s ≡ true → DomainSort d s
-domain-ok d s e = elim (or-cases (same s T′ || same s P) (same d P) e) [
-  | inr f ↦ rw (same-true d P f) is-prop
+pub domain-ok : (s : Term) → domain s ≡ true → DomainSort s
+domain-ok s e = elim (or-cases (same s T′ || same s P) (same s KindP) e) [
+  | inr f ↦ rw (same-true s KindP f) of-kind
   | inl f ↦ elim (or-cases (same s T′) (same s P) f) [ inl g ↦ rw (same-true s T′ g) of-type | inr g ↦ rw (same-true s P g) of-prop ]
 ]
 
-pub domain-is : {d s : Term} → DomainSort d s → domain d s ≡ true
+pub domain-is : {s : Term} → DomainSort s → domain s ≡ true
 unfolding same-term
 domain-is of-type = refl
 domain-is of-prop = refl
-domain-is (is-prop {s}) = or-true (same s T′ || same s P)
+domain-is of-kind = refl
 
 pub body-ok : (r : Term) → body r ≡ true → BodySort r
 body-ok r e = elim (or-cases (same r P) (same r KindP) e) [ inl f ↦ rw (same-true r P f) body-prop | inr f ↦ rw (same-true r KindP f) body-kind ]

@@ -1,4 +1,4 @@
--- Document 01's section on typing, a sentence at a time, by computation.
+-- Document 01's section on typing with document 02's changes, a sentence at a time, by computation.
 use mathlib.Core.Path.{refl}
 use native.Mathlib.Decide.{ℕ-discrete}
 use Rattle.logic.specs.Term.{size, encode}
@@ -26,13 +26,16 @@ sentences = record {
   pi-kind = refl;
   pi-over-proofs = refl;
   pi-over-props = refl;
-  pi-over-types = refl;
   pi-over-properties = refl;
+  pi-over-properties-kind = refl;
+  pi-over-types = refl;
   pi-over-string = refl;
   pi-of-type = refl;
   lam = refl;
+  lam-over-properties = refl;
   lam-over-types = refl;
   lam-of-prop = refl;
+  lam-of-property = refl;
   app = refl;
   app-raised = refl;
   app-of-string = refl;

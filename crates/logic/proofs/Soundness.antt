@@ -47,16 +47,16 @@ module _ (Σ : List Term) (sig : Signature Σ) where
       let (h′, k′) = sound q Γ (at + 1 + size a) c (rw p′ at e₄) in
       conclude at (has-says h h′) (λ m. (k, k′, m)) e₆
   sound (node piO d b) Γ at c e =
-      bound (infer Σ Γ (at + 1) d) _ e λ s e₁ e₂. tested (domain d s) _ _ _ e₂ λ p e₃.
+      bound (infer Σ Γ (at + 1) d) _ e λ s e₁ e₂. tested (domain s) _ _ _ e₂ λ p e₃.
       bound (infer Σ (d ∷ Γ) (at + 1 + size d) b) _ e₃ λ r e₄ e₅. tested (body r) _ _ _ e₅ λ p′ e₆.
-      let ds = domain-ok d s p in
+      let ds = domain-ok s p in
       let (h, k) = sound d Γ (at + 1) c e₁ in
       let (h′, k′) = sound b (d ∷ Γ) (at + 1 + size d) (binder c h ds) e₄ in
       conclude at (has-pi h ds h′ (body-ok r p′)) (λ m. (k, k′, m)) e₆
   sound (node lamO d b) Γ at c e =
-      bound (infer Σ Γ (at + 1) d) _ e λ s e₁ e₂. tested (domain d s) _ _ _ e₂ λ p e₃.
+      bound (infer Σ Γ (at + 1) d) _ e λ s e₁ e₂. tested (domain s) _ _ _ e₂ λ p e₃.
       bound (infer Σ (d ∷ Γ) (at + 1 + size d) b) _ e₃ λ B e₄ e₅. tested (proposition B) _ _ _ e₅ λ p′ e₆.
-      let ds = domain-ok d s p in
+      let ds = domain-ok s p in
       let (h, k) = sound d Γ (at + 1) c e₁ in
       let (h′, k′) = sound b (d ∷ Γ) (at + 1 + size d) (binder c h ds) e₄ in
       conclude at (has-lam h ds h′ (proposition-right Σ sig (binder c h ds) h′ .1 p′)) (λ m. (k, k′, m)) e₆

@@ -1,5 +1,5 @@
--- Document 01's section on typing, a sentence at a time: what each rule types and where it breaks, by literals, with the
--- sample signature. proofs/Sentences computes them, so that they rest on no other proof.
+-- Document 01's section on typing with document 02's changes, a sentence at a time: what each rule types and where it
+-- breaks, by literals, with the sample signature. proofs/Sentences computes them, so that they rest on no other proof.
 use mathlib.Core.Path.{_≡_}
 use Rattle.logic.specs.Result.{ok, refused}
 use Rattle.logic.specs.Term.{Term, var, sign, P, T′, S, N, KindP, KindT, Const, Text, Name, Says, Pi, Lam, App, Ret, Bind, encode}
@@ -35,19 +35,23 @@ pub record Sentences : Type 0 where
   pub says-by-string : Breaks (Says (Text 7) consent)
   pub says-string : Breaks (Says (Name 3) (Text 7))
   pub says-kind : Breaks (Says (Name 3) P)
-  -- "Pi d b has the type of b, if that is P or KindP, and d has type T or P, or d is the word P itself."
+  -- "Pi d b has the type of b, if that is P or KindP, and d has type T or P", or KindP: "Pi and Lam now admit any domain
+  -- whose type is KindP" (document 02, slip 1), the word P among them
   pub pi-prop : Pi S consent has-type P
   pub pi-kind : Pi S P has-type KindP
   pub pi-over-proofs : Pi consent consent has-type P
   pub pi-over-props : Pi P (var 0) has-type P
+  pub pi-over-properties : Pi (Pi S P) (App (var 0) (Text 7)) has-type P
+  pub pi-over-properties-kind : Pi (Pi S P) P has-type KindP
   pub pi-over-types : Breaks (Pi T′ consent)
-  pub pi-over-properties : Breaks (Pi (Pi S P) (App (var 0) (Text 7)))
   pub pi-over-string : Breaks (Pi (Text 7) consent)
   pub pi-of-type : Breaks (Pi S S)
   -- "Lam d b : Pi d B if d obeys the same condition, b : B and B : P."
   pub lam : Lam consent (var 0) has-type Pi consent consent
-  pub lam-over-types : Breaks (Lam T′ (var 0))
+  pub lam-over-properties : Lam (Pi S P) (sign 3 consent) has-type Pi (Pi S P) (Says (Name 3) consent)
+  pub lam-over-types : Breaks (Lam T′ (sign 3 consent))
   pub lam-of-prop : Breaks (Lam S consent)
+  pub lam-of-property : Breaks (Lam (Pi S P) (var 0))
   -- "App f e is typed if f : Pi d B and e : d; its type is B filled with e", the filler raised under each binder
   pub app : App (Const 1) (Text 7) has-type Pi S P
   pub app-raised : Lam S (Lam told-to-all (App (var 0) (var 1))) has-type Pi S (Pi told-to-all (Pi N (Says (var 0) (App (Const 2) (var 2)))))

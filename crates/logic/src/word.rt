@@ -45,7 +45,13 @@ pub const TAG_KIND_P: u32 = 16;
 
 pub const TAG_KIND_T: u32 = 17;
 
-// The words of Says and App, and of variable 0, constant 0, string 0 and principal 0.
+// The words of P, T and KindP, of Says and App, and of variable 0, constant 0, string 0 and principal 0.
+pub const PROP: u32 = TAG_PROP * PAYLOADS;
+
+pub const TYPE: u32 = TAG_TYPE * PAYLOADS;
+
+pub const KIND_P: u32 = TAG_KIND_P * PAYLOADS;
+
 pub const SAYS: u32 = TAG_SAYS * PAYLOADS;
 
 pub const APP: u32 = TAG_APP * PAYLOADS;

@@ -113,11 +113,11 @@ module _ (Σ : List Term) {bound : ℕ} where
       bind-within (infer Σ Γ (at + 1 + size a) q) _ (infer-within q Γ (at + 1 + size a) (omega arith)) λ r _. tested-within (same r P) _ at _ (omega arith) (omega arith) λ _.
       measured-within at P (omega arith)
   infer-within (node piO d b) Γ at h =
-      bind-within (infer Σ Γ (at + 1) d) _ (infer-within d Γ (at + 1) (omega arith)) λ s _. tested-within (domain d s) _ at _ (omega arith) (omega arith) λ _.
+      bind-within (infer Σ Γ (at + 1) d) _ (infer-within d Γ (at + 1) (omega arith)) λ s _. tested-within (domain s) _ at _ (omega arith) (omega arith) λ _.
       bind-within (infer Σ (d ∷ Γ) (at + 1 + size d) b) _ (infer-within b (d ∷ Γ) (at + 1 + size d) (omega arith)) λ r _. tested-within (body r) _ at _ (omega arith) (omega arith) λ _.
       measured-within at r (omega arith)
   infer-within (node lamO d b) Γ at h =
-      bind-within (infer Σ Γ (at + 1) d) _ (infer-within d Γ (at + 1) (omega arith)) λ s _. tested-within (domain d s) _ at _ (omega arith) (omega arith) λ _.
+      bind-within (infer Σ Γ (at + 1) d) _ (infer-within d Γ (at + 1) (omega arith)) λ s _. tested-within (domain s) _ at _ (omega arith) (omega arith) λ _.
       bind-within (infer Σ (d ∷ Γ) (at + 1 + size d) b) _ (infer-within b (d ∷ Γ) (at + 1 + size d) (omega arith)) λ B _. tested-within (proposition B) _ at _ (omega arith) (omega arith) λ _.
       measured-within at (Pi d B) (omega arith)
   infer-within (node appO f x) Γ at h =

@@ -13,21 +13,23 @@ use borrow.Author.Tests.{eqb-true, eq-eqb}
 use Rattle.logic.specs.Limits.{most-type-words}
 use Rattle.logic.specs.Refusals.{condition-fails}
 use Rattle.logic.specs.Result.{Result, ok, refused, _>>_, known}
-use Rattle.logic.specs.Tags.{tag-prop, tag-app, tag-bind, tag-kindP, tag-kindT}
-use Rattle.logic.specs.Term.{Op, saysO, piO, lamO, appO, retO, bindO, Op-discrete, Term, atom, var, sign, node, P, T′, N, Says, word, tag-of, opWord, encode, size}
+use Rattle.logic.specs.Tags.{tag-app, tag-bind, tag-kindP, tag-kindT}
+use Rattle.logic.specs.Term.{Atom, propA, typeA, kindPA, Op, saysO, piO, lamO, appO, retO, bindO, Op-discrete, Term, atom, var, sign, node, N, Says, word, tag-of, atomWord, opWord, encode, size}
 use Rattle.logic.specs.Move.{raise}
-use Rattle.logic.specs.Reading.{branch, leaf, shape, Plain, PlainType}
+use Rattle.logic.specs.Reading.{branch, shape, Plain, PlainType}
 use Rattle.logic.specs.Infer.{same, condition, domain, Parts, parts}
 use Rattle.logic.proofs.Basics.{clash}
-use Rattle.logic.proofs.Proposition.{same-yes, same-no}
+use Rattle.logic.proofs.Proposition.{same-true, same-yes}
 use Rattle.logic.proofs.Results.{then-is}
 use Rattle.logic.proofs.Stopped.{stop-then}
-use Rattle.logic.proofs.Words.{first, head, shape-first, encode-size}
+use Rattle.logic.proofs.Words.{first, head, shape-first, InRangeAtom, first-atom, encode-size}
 use Rattle.logic.specs.Kind.{kind-binder, opKind, kindOf}
 use Rattle.words.specs.Place.{At, written}
 use Rattle.moves.specs.Shift.{Shifted}
 use Rattle.words.specs.Typed.{TypeAt}
-use Rattle.words.proofs.Places.{words-head, at-head, at-left}
+use Rattle.words.proofs.Places.{words-head, at-left}
+use Rattle.words.proofs.Sames.{same-test}
+use Rattle.words.proofs.Types.{in-range}
 use Rattle.moves.proofs.Shifts.{length-shift}
 use Rattle.rules.specs.Rule.{ready}
 use Rattle.rules.specs.Scope.{tail, entry-head, entry}
@@ -39,27 +41,17 @@ use Rattle.rules.proofs.Kepts.{drop-written, written-before, written-in
 
 -- ---- a domain
 
-prop-word : (a : Term) → Plain a → first a ≡ word tag-prop 0 → a ≡ P
-prop-word a p e = go a (sym (shape-first a p) ∙ ap shape e)
-  where
-    go : (a : Term) → head a ≡ leaf P → a ≡ P
-    go (atom x) q = cc
-    go (var n) q = absurd (clash (cc))
-    go (sign n t) q = absurd (clash (cc))
-    go (node o x y) q = absurd (clash (cc))
+-- the first word of a type that a domain may have
+abbrev pub domain-word : ℕ → Bool
+domain-word w = eqb w (atomWord typeA) || eqb w (atomWord propA) || eqb w (atomWord kindPA)
 
-pub domain-type : (a A : Term) → true ≡ same A T′ → true ≡ domain a A
-domain-type a A e = ap (λ (b : Bool). b || same A P || same a P) e
-
-pub domain-prop : (a A : Term) → false ≡ same A T′ → true ≡ same A P → true ≡ domain a A
-domain-prop a A e f = ap₂ (λ (b c : Bool). b || c || same a P) e f
-
-pub domain-word : (a A : Term) (w : ℕ) → Plain a → w ≡ first a → false ≡ same A T′ → false ≡ same A P → eqb w (word tag-prop 0) ≡ domain a A
-domain-word a A w p q e f = go (eqb w (word tag-prop 0)) refl ∙ ap₂ (λ (b c : Bool). b || c || same a P) e f
-  where
-    go : (b : Bool) → eqb w (word tag-prop 0) ≡ b → b ≡ same a P
-    go true t = sym (same-yes (prop-word a p (sym q ∙ eqb-true w (word tag-prop 0) t)))
-    go false t = sym (same-no λ s. clash (cc (t, eq-eqb w (word tag-prop 0) (q ∙ ap first s))))
+pub domain-first : (A : Term) (w : ℕ) → PlainType A → w ≡ first A → domain-word w ≡ domain A
+domain-first A w p e =
+    let is : (a : Atom) → InRangeAtom a → eqb w (atomWord a) ≡ same A (atom a) = λ a r.
+    same-test _ _
+    (λ t. same-yes (first-atom A a (in-range A p) r (sym e ∙ eqb-true _ _ t)))
+    (λ t. eq-eqb _ _ (e ∙ ap first (same-true A (atom a) t))) in
+    ap₂ _||_ (ap₂ _||_ (is typeA tt) (is propA tt)) (is kindPA tt)
 
 -- ---- a type that is a node
 
@@ -180,7 +172,7 @@ module _ {ws mid : List ℕ} {n : ℕ} {p q : Term} (used : ℕ) (h : TypeAt ws 
 -- ---- a node's rule: the test, the entry, and the words kept at the front
 
 record Rule (o : Op) (at : ℕ) (a A : Term) (n : ℕ) (test : Result (Unit {0})) (xs : List ℕ) (keep : ℕ) : Type 0 where
-  tests : ready o at a A ≡ test
+  tests : ready o at A ≡ test
   keeps : entry o at a A ≡ xs
   front : keep-of o n ≡ keep
 
@@ -210,7 +202,7 @@ kind-op : (o : Op) → kindOf (shape (opWord o)) ≡ opKind o
 kind-op o = ap kindOf (shape-op o)
 
 -- of Pi and Lam
-binder-rule : (o : Op) (at : ℕ) (a A : Term) (n w : ℕ) → w ≡ opWord o → (tag-of w ≡ tag-bind → ⊥) → opKind o ≡ kind-binder → Rule o at a A n (condition at (domain a A)) (entry-head ∷ (at + 1) ∷ size a ∷ []) 0
+binder-rule : (o : Op) (at : ℕ) (a A : Term) (n w : ℕ) → w ≡ opWord o → (tag-of w ≡ tag-bind → ⊥) → opKind o ≡ kind-binder → Rule o at a A n (condition at (domain A)) (entry-head ∷ (at + 1) ∷ size a ∷ []) 0
 unfolding ready
 binder-rule saysO at a A n w e q k = absurd (omega arith)
 binder-rule piO at a A n w e q k = record { tests = refl; keeps = refl; front = refl }
@@ -292,10 +284,10 @@ module _ {proof ws : List ℕ} {at next n : ℕ} {o : Op} {a A : Term} (used : �
 
   -- what `domain` answers
   abbrev Answers : Bool → Type 0
-  Answers b = (d s : Term) → Plain d → getD proof (at + 1) 0 ≡ first d → TypeAt ws 0 s → n ≡ size s → b ≡ domain d s
+  Answers b = (s : Term) → PlainType s → getD ws 0 0 ≡ first s → b ≡ domain s
 
-  domain-is : (b : Bool) → Answers b → b ≡ domain a A
-  domain-is b f = f a A (j .here .plain) (at-head (j .here)) (j .type) (j .type-words)
+  domain-is : (b : Bool) → Answers b → b ≡ domain A
+  domain-is b f = f A (j .type .plain) front-first
 
   pub binder-passes : {new : List ℕ} {r k : ℕ} {b : Bool} → (tag-of (getD proof at 0) ≡ tag-bind → ⊥) → k ≡ kindOf (shape (getD proof at 0)) → k ≡ kind-binder → b ≡ true → Answers b → Kept (entry-head ∷ (at + 1) ∷ (next - (at + 1)) ∷ []) used ws new r → Entering o at a A n used ws new (Fits 0 r)
   binder-passes {new} {r} {k} {b} t e i d f g =

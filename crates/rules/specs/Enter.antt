@@ -66,5 +66,5 @@ Entry-kept (ok _) o at a A used old new = (tail (used + length (entry o at a A))
 Entry-kept (refused m p) o at a A used old new = new ≡ old
 
 pub record Entering (o : Op) (at : ℕ) (a A : Term) (n used : ℕ) (old new : List ℕ) (r : Entered) : Type 0 where
-  pub answer : entered-answer at r ≡ (ready o at a A >> ok (keep-of o n, used + length (entry o at a A)))
-  pub kept : Entry-kept (ready o at a A) o at a A used old new
+  pub answer : entered-answer at r ≡ (ready o at A >> ok (keep-of o n, used + length (entry o at a A)))
+  pub kept : Entry-kept (ready o at A) o at a A used old new

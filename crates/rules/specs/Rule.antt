@@ -34,14 +34,14 @@ first (var n) = var n
 first (sign n q) = q
 first (node o a b) = a
 
--- the test on the first child a, whose type is A
-unfoldable pub ready : Op → ℕ → Term → Term → Result (Unit {0})
-ready saysO at a A = condition at (same A N)
-ready piO at a A = condition at (domain a A)
-ready lamO at a A = condition at (domain a A)
-ready appO at a A = known condition-fails at (parts piO A) >> ok tt
-ready retO at a A = condition at (same A N)
-ready bindO at a A = known condition-fails at (parts saysO A) >> ok tt
+-- the test on the first child's type A
+unfoldable pub ready : Op → ℕ → Term → Result (Unit {0})
+ready saysO at A = condition at (same A N)
+ready piO at A = condition at (domain A)
+ready lamO at A = condition at (domain A)
+ready appO at A = known condition-fails at (parts piO A) >> ok tt
+ready retO at A = condition at (same A N)
+ready bindO at A = known condition-fails at (parts saysO A) >> ok tt
 
 -- the binders in scope of the second child
 abbrev pub within : Op → Term → Term → List Term → List Term

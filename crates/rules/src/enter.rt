@@ -2,14 +2,15 @@
 use crate::front::front_is;
 use crate::scope::ENTRY_HEAD;
 use logic::word::BINDER;
+use logic::word::KIND_P;
 use logic::word::PAYLOADS;
+use logic::word::PROP;
 use logic::word::TAG_APP;
 use logic::word::TAG_BIND;
 use logic::word::TAG_PI;
 use logic::word::TAG_PRIN;
-use logic::word::TAG_PROP;
 use logic::word::TAG_SAYS;
-use logic::word::TAG_TYPE;
+use logic::word::TYPE;
 use logic::word::kind;
 use logic::word::tag_of;
 use moves::shift::shift_within;
@@ -20,7 +21,7 @@ ghost use Prim.Native.Nat.{ℕ, _+_, _-_, _≤_, _<_};
 ghost use lib.ListN.{length};
 ghost use Rattle.logic.specs.Limits.{most-words};
 ghost use Rattle.logic.specs.Term.{Op, bindO, Term, Says, size};
-ghost use Rattle.logic.specs.Reading.{Plain};
+ghost use Rattle.logic.specs.Reading.{PlainType};
 ghost use Rattle.logic.specs.Infer.{domain as isDomain};
 ghost use Rattle.logic.proofs.Words.{first};
 ghost use Rattle.words.specs.Place.{written};
@@ -34,18 +35,17 @@ pub enum Entered {
     Fails,
 }
 
-// Whether a term with the first word given, whose type is the first n words of the workspace, may be a domain.
-fn domain(word: u32, ws: &[u32], n: usize) -> bool
-    requires { ⌜ 0 < length (now ws) ⌝ }
-    ensures { λ r. ⌜ ((a A : Term) → Plain a → word ≡ first a → TypeAt (now (ws .entry)) 0 A → n ≡ size A → r ≡ isDomain a A) ⌝ }
+// Whether a type that begins with this word is one that a domain may have: T, P or KindP, which have no other word.
+fn domain(word: u32) -> bool
+    ensures { λ r. ⌜ ((A : Term) → PlainType A → word ≡ first A → r ≡ isDomain A) ⌝ }
 {
-    if front_is(ws, n, TAG_TYPE * PAYLOADS) {
+    if word == TYPE {
         return true;
     }
-    if front_is(ws, n, TAG_PROP * PAYLOADS) {
+    if word == PROP {
         return true;
     }
-    word == TAG_PROP * PAYLOADS
+    word == KIND_P
 }
 
 // Writes the first words of an entry.
@@ -115,7 +115,7 @@ pub fn enter(
         return Entered::Fails;
     }
     if kind(word) == BINDER {
-        let fine = domain(proof[at + 1], &ws[..], n);
+        let fine = domain(ws[0]);
         if fine {
             let kept = keep_domain(ws, used, at + 1, next);
             return Entered::Fits {

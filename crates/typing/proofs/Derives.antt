@@ -138,26 +138,26 @@ pub record Between (proof ws mid : List ℕ) (used at next n : ℕ) (Σ Γ : Lis
 
 -- the test on it passed, and the second child's derivation is lent what is left
 pub record Inside (mid mid2 : List ℕ) (used at n keep kept : ℕ) (o : Op) (a A : Term) : Type 0 where
-  pub passed : ready o at a A ≡ ok tt
+  pub passed : ready o at A ≡ ok tt
   pub keep-is : keep ≡ keep-of o n
   pub kept-is : kept ≡ used + length (entry o at a A)
   pub entered : tail kept mid2 ≡ entry o at a A ++ tail used mid
   pub front : TypeAt mid2 0 A
 
 pub inside : (o : Op) (at : ℕ) (a A : Term) (n used : ℕ) (mid mid2 : List ℕ) (r : Entered) (keep kept : ℕ) → Entering o at a A n used mid mid2 r → r ≡ Fits keep kept → Inside mid mid2 used at n keep kept o a A
-inside o at a A n used mid mid2 r keep kept e q = followed (ready o at a A) _ (sym (e .answer) ∙ ap (entered-answer at) q) λ u i j.
+inside o at a A n used mid mid2 r keep kept e q = followed (ready o at A) _ (sym (e .answer) ∙ ap (entered-answer at) q) λ u i j.
     let v : _≡_ {A = ℕ × ℕ} (keep-of o n, used + length (entry o at a A)) (keep, kept) = ok-inj j in
     let k : kept ≡ used + length (entry o at a A) = sym (ap (λ (x : ℕ × ℕ). x .1) v) in
     let w = subst (λ (x : Result (Unit {0})). Entry-kept x o at a A used mid mid2) i (e .kept) in
     record { passed = i; keep-is = sym (ap (λ (x : ℕ × ℕ). x .0) v); kept-is = k; entered = ap (λ (i : ℕ). tail i mid2) k ∙ w .0; front = w .1 }
 
 -- a test that fails is refused at the node
-record Failed (mid mid2 : List ℕ) (o : Op) (at : ℕ) (a A : Term) : Type 0 where
-  fails : ready o at a A ≡ refused condition-fails at
+record Failed (mid mid2 : List ℕ) (o : Op) (at : ℕ) (A : Term) : Type 0 where
+  fails : ready o at A ≡ refused condition-fails at
   unchanged : mid2 ≡ mid
 
-failed : (o : Op) (at : ℕ) (a A : Term) (n used : ℕ) (mid mid2 : List ℕ) (r : Entered) → Entering o at a A n used mid mid2 r → r ≡ Fails → Failed mid mid2 o at a A
-failed o at a A n used mid mid2 r e q = stopped-then (ready o at a A) _ (sym (e .answer) ∙ ap (entered-answer at) q)
+failed : (o : Op) (at : ℕ) (a A : Term) (n used : ℕ) (mid mid2 : List ℕ) (r : Entered) → Entering o at a A n used mid mid2 r → r ≡ Fails → Failed mid mid2 o at A
+failed o at a A n used mid mid2 r e q = stopped-then (ready o at A) _ (sym (e .answer) ∙ ap (entered-answer at) q)
     (λ i. record { fails = i; unchanged = subst (λ (x : Result (Unit {0})). Entry-kept x o at a A used mid mid2) i (e .kept) })
     λ u i j. absurd (not-refused j)
 
@@ -170,16 +170,16 @@ known-some {o} A at e = go (parts o A) refl e
     go none e q = absurd (not-ok q)
     go (some p) e q = let h = parts-some o A e in h ∙ ap₂ (node o) (sym (ap first h)) (sym (ap second h))
 
-pub ready-pi : (at : ℕ) (a A : Term) → ready appO at a A ≡ ok tt → A ≡ Pi (first A) (second A)
+pub ready-pi : (at : ℕ) (A : Term) → ready appO at A ≡ ok tt → A ≡ Pi (first A) (second A)
 unfolding ready
-ready-pi at a A e = known-some A at e
+ready-pi at A e = known-some A at e
 
-pub ready-says : (at : ℕ) (a A : Term) → ready bindO at a A ≡ ok tt → A ≡ Says (first A) (second A)
+pub ready-says : (at : ℕ) (A : Term) → ready bindO at A ≡ ok tt → A ≡ Says (first A) (second A)
 unfolding ready
-ready-says at a A e = known-some A at e
+ready-says at A e = known-some A at e
 
 -- the words of an entry
-pub entry-short : (o : Op) (at : ℕ) (a A : Term) → size A ≤ most-type-words → ready o at a A ≡ ok tt → length (entry o at a A) ≤ level-words
+pub entry-short : (o : Op) (at : ℕ) (a A : Term) → size A ≤ most-type-words → ready o at A ≡ ok tt → length (entry o at a A) ≤ level-words
 unfolding size
 entry-short saysO at a A s e = omega arith
 entry-short piO at a A s e = omega arith
@@ -187,7 +187,7 @@ entry-short lamO at a A s e = omega arith
 entry-short appO at a A s e = omega arith
 entry-short retO at a A s e = omega arith
 entry-short bindO at a A s e =
-    let h : size A ≡ suc (size (first A) + size (second A)) = ap size (ready-says at a A e) in
+    let h : size A ≡ suc (size (first A) + size (second A)) = ap size (ready-says at A e) in
     let l = length-append (encode (raise 1 (first A))) (encode (second A)) in
     let x : length (encode (raise 1 (first A))) ≡ size (first A) = encode-size _ ∙ size-shift 0 _ (first A) in
     let y = encode-size (second A) in
@@ -200,7 +200,7 @@ says-plain p q (inr (inl e)) = absurd (clash (cc))
 says-plain p q (inr (inr e)) = absurd (clash (cc))
 
 -- the entry of a binder, before those of the others, is that of one binder more
-pub binders-more : {proof h : List ℕ} {Γ : List Term} (o : Op) (at : ℕ) (a A : Term) → At proof (at + 1) a → PlainType A → ready o at a A ≡ ok tt → Binders proof h Γ → Binders proof (entry o at a A ++ h) (within o a A Γ)
+pub binders-more : {proof h : List ℕ} {Γ : List Term} (o : Op) (at : ℕ) (a A : Term) → At proof (at + 1) a → PlainType A → ready o at A ≡ ok tt → Binders proof h Γ → Binders proof (entry o at a A ++ h) (within o a A Γ)
 unfolding size
 binders-more saysO at a A i p e b = b
 binders-more piO at a A i p e b = in-proof i b
@@ -208,7 +208,7 @@ binders-more lamO at a A i p e b = in-proof i b
 binders-more appO at a A i p e b = b
 binders-more retO at a A i p e b = b
 binders-more {proof} {h} {Γ} bindO at a A i p e b =
-    let says : A ≡ Says (first A) (second A) = ready-says at a A e in
+    let says : A ≡ Says (first A) (second A) = ready-says at A e in
     let q : Plain (first A) × Plain (second A) = says-plain (first A) (second A) (subst PlainType says p) in
     let x : List ℕ = opWord saysO ∷ encode (raise 1 (first A)) in
     let l : length (encode (raise 1 (first A))) ≡ size (first A) = encode-size _ ∙ size-shift 0 _ (first A) in
@@ -228,13 +228,13 @@ module _ (Σ Γ : List Term) (at : ℕ) (o : Op) (a b : Term) where
     ruled : infer Σ Γ at (node o a b) ≡ rule Σ Γ at o a b A
     ruled = uniform Σ Γ at o a b ∙ ap (λ x. x >>= λ A. rule Σ Γ at o a b A) is
 
-    test-refused : (m p : ℕ) → ready o at a A ≡ refused m p → infer Σ Γ at (node o a b) ≡ refused m p
+    test-refused : (m p : ℕ) → ready o at A ≡ refused m p → infer Σ Γ at (node o a b) ≡ refused m p
     test-refused m p e = ruled ∙ ap (λ x. x >> (infer Σ (within o a A Γ) (at + 1 + size a) b >>= λ B. formed o at a b A B)) e
 
-    passed-test : ready o at a A ≡ ok tt → infer Σ Γ at (node o a b) ≡ (infer Σ (within o a A Γ) (at + 1 + size a) b >>= λ B. formed o at a b A B)
+    passed-test : ready o at A ≡ ok tt → infer Σ Γ at (node o a b) ≡ (infer Σ (within o a A Γ) (at + 1 + size a) b >>= λ B. formed o at a b A B)
     passed-test e = ruled ∙ ap (λ x. x >> (infer Σ (within o a A Γ) (at + 1 + size a) b >>= λ B. formed o at a b A B)) e
 
-    module _ (passed : ready o at a A ≡ ok tt) (next : ℕ) (next-is : next ≡ at + 1 + size a) where
+    module _ (passed : ready o at A ≡ ok tt) (next : ℕ) (next-is : next ≡ at + 1 + size a) where
       second-refused : (m p : ℕ) → infer Σ (within o a A Γ) next b ≡ refused m p → infer Σ Γ at (node o a b) ≡ refused m p
       second-refused m p e = passed-test passed ∙ ap (λ x. x >>= λ B. formed o at a b A B) (ap (λ (i : ℕ). infer Σ (within o a A Γ) i b) (sym next-is) ∙ e)
 
@@ -317,13 +317,13 @@ module _ {sig table proof ws : List ℕ} {floor used at left : ℕ} {Σ Γ : Lis
     unfolding ready
     context-here = go o (I .passed)
       where
-        go : (o : Op) → ready o at a A ≡ ok tt → Context Σ (within o a A Γ)
+        go : (o : Op) → ready o at A ≡ ok tt → Context Σ (within o a A Γ)
         go saysO e = R .context
-        go piO e = binder (R .context) first-has (domain-ok a A (require-ok (domain a A) _ _ e))
-        go lamO e = binder (R .context) first-has (domain-ok a A (require-ok (domain a A) _ _ e))
+        go piO e = binder (R .context) first-has (domain-ok A (require-ok (domain A) _ _ e))
+        go lamO e = binder (R .context) first-has (domain-ok A (require-ok (domain A) _ _ e))
         go appO e = R .context
         go retO e = R .context
-        go bindO e = binder (R .context) (said Σ (R .signature) (stratify Σ (R .signature) (R .context) (subst (Has Σ Γ a) (ready-says at a A e) first-has)) .1) of-prop
+        go bindO e = binder (R .context) (said Σ (R .signature) (stratify Σ (R .signature) (R .context) (subst (Has Σ Γ a) (ready-says at A e) first-has)) .1) of-prop
 
     within-length : length (within o a A Γ) ≤ length Γ + 1
     within-length = go o
@@ -402,17 +402,17 @@ module _ {sig table proof ws : List ℕ} {floor used at left : ℕ} {Σ Γ : Lis
         unfolding formed
         first-here = go o (I .keep-is) (I .passed) node-plain
           where
-            go : (o : Op) → keep ≡ keep-of o n → ready o at a A ≡ ok tt → ((X : Term) → formed o at a b A C ≡ ok X → PlainType X) → First o mid3 b A C
+            go : (o : Op) → keep ≡ keep-of o n → ready o at A ≡ ok tt → ((X : Term) → formed o at a b A C ≡ ok X → PlainType X) → First o mid3 b A C
             go saysO k e f = tt
             go piO k e f = tt
             go lamO k e f = tt
             go appO k e f = (
-              ready-pi at a A e,
+              ready-pi at A e,
               type-before keep mid2 part A (k ∙ B .enters .type-words) (I .front),
               λ y z. f (fill (second A) b) (pass _ at (same-yes y) (measured-small at z)),
             )
             go retO k e f = tt
-            go bindO k e f = let x = ready-says at a A e in (x, principal x)
+            go bindO k e f = let x = ready-says at A e in (x, principal x)
 
         ends-here : end ≡ at + size (node o a b)
         unfolding size

@@ -11,7 +11,7 @@ use Rattle.rules.specs.Rule.{first, second, ready, within, formed}
 
 -- the rule of a node whose first child a has the type A
 abbrev pub rule : List Term → List Term → ℕ → Op → (a b A : Term) → Result Term
-rule Σ Γ at o a b A = ready o at a A >> (infer Σ (within o a A Γ) (at + 1 + size a) b >>= λ B. formed o at a b A B)
+rule Σ Γ at o a b A = ready o at A >> (infer Σ (within o a A Γ) (at + 1 + size a) b >>= λ B. formed o at a b A B)
 
 -- what goes on with the parts of a term goes on with its children
 abbrev then-parts : ℕ → (Term → Term → Result Term) → Option Parts → Result Term

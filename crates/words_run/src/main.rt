@@ -1,11 +1,11 @@
 // Reads, shifts and fills terms, at the edges too, and prints a line for each.
 use logic::word::APP;
 use logic::word::CONSTANT_0;
+use logic::word::KIND_P;
 use logic::word::PAYLOADS;
-use logic::word::TAG_KIND_P;
+use logic::word::PROP;
 use logic::word::TAG_LAM;
 use logic::word::TAG_PI;
-use logic::word::TAG_PROP;
 use logic::word::TAG_SIGN;
 use logic::word::VARIABLE_0;
 use moves::fill::Filled;
@@ -18,7 +18,7 @@ use words::read::read_whole;
 ghost use Rattle.io.specs.Counts.{Counts};
 
 // P, C0, V0, and the words that have children.
-const P: u32 = TAG_PROP * PAYLOADS;
+const P: u32 = PROP;
 
 const C0: u32 = CONSTANT_0;
 
@@ -29,8 +29,6 @@ const PI: u32 = TAG_PI * PAYLOADS;
 const LAM: u32 = TAG_LAM * PAYLOADS;
 
 const SIGN_0: u32 = TAG_SIGN * PAYLOADS;
-
-const KIND_P: u32 = TAG_KIND_P * PAYLOADS;
 
 // The most that a shift may be asked.
 const FAR: i32 = PAYLOADS as i32;

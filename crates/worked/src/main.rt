@@ -1,4 +1,5 @@
-// Makes document 01's examples through the calls of the register, and prints a line for each.
+// Makes document 01's examples and document 02's trust in a whole property through the calls of the register, and prints
+// a line for each.
 mod lines;
 mod terms;
 
@@ -29,6 +30,8 @@ use crate::terms::signature;
 use crate::terms::statement;
 use crate::terms::statement_254;
 use crate::terms::statement_255;
+use crate::terms::trust;
+use crate::terms::trusting;
 use logic::limit::LEAST_WORKSPACE;
 use logic::word::APP;
 
@@ -151,6 +154,21 @@ fn refusals(register: &mut [u32; 64], short: &mut [u32; 63], granted: &[u32; 64]
     counts_line(register);
 }
 
+// Document 02, slip 1: a4 trusts what a5 says of homes, whatever the property.
+fn trusts(register: &mut [u32; 64]) {
+    heading(b"Trust in a whole property, on a register of 64 words");
+    begin(register);
+    let derived = trusting();
+    check_line(b"the trust not said", register, &derived);
+    let stated = trust();
+    say_line(b"a4 says the trust", register, 4, &stated);
+    check_line(b"App C2 s7 not said", register, &derived);
+    let said = statement();
+    say_line(b"a5 says App C2 s7", register, 5, &said);
+    check_line(b"both said", register, &derived);
+    counts_line(register);
+}
+
 fn main() {
     let mut granted = [0u32; 64];
     grant(&mut granted);
@@ -160,4 +178,6 @@ fn main() {
     long_says(&mut long);
     let mut register = [0u32; 64];
     refusals(&mut register, &mut short, &granted);
+    let mut trust_register = [0u32; 64];
+    trusts(&mut trust_register);
 }

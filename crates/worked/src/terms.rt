@@ -1,20 +1,21 @@
-// The words of document 01's sample, each under the name that the document gives it.
+// The words of document 01's sample, each under the name that the document gives it, and of document 02's trust in a
+// whole property.
 use logic::word::APP;
 use logic::word::CONSTANT_0;
 use logic::word::NAME_0;
 use logic::word::PAYLOADS;
+use logic::word::PROP;
 use logic::word::SAYS;
 use logic::word::TAG_BIND;
 use logic::word::TAG_PI;
 use logic::word::TAG_PRIN;
-use logic::word::TAG_PROP;
 use logic::word::TAG_RET;
 use logic::word::TAG_SIGN;
 use logic::word::TAG_STRING;
 use logic::word::TEXT_0;
 use logic::word::VARIABLE_0;
 
-pub(crate) const P: u32 = TAG_PROP * PAYLOADS;
+pub(crate) const P: u32 = PROP;
 
 pub(crate) const S: u32 = TAG_STRING * PAYLOADS;
 
@@ -42,11 +43,17 @@ pub(crate) const A0: u32 = NAME_0;
 
 const A3: u32 = A0 + 3;
 
+const A4: u32 = A0 + 4;
+
+const A5: u32 = A0 + 5;
+
 const SIGN0: u32 = TAG_SIGN * PAYLOADS;
 
 pub(crate) const SIGN3: u32 = SIGN0 + 3;
 
 pub(crate) const SIGN4: u32 = SIGN0 + 4;
+
+const SIGN5: u32 = SIGN0 + 5;
 
 pub(crate) const RET: u32 = TAG_RET * PAYLOADS;
 
@@ -108,6 +115,22 @@ pub(crate) fn proof() -> [u32; 27] {
 // A = App C2 s7, which a3 says.
 pub(crate) fn statement() -> [u32; 3] {
     [APP, C2, S7]
+}
+
+// "For every property Q of homes, what this surveyor says of Q holds", of a5:
+// Pi Pi S P Pi S Pi Says a5 App V1 V0 App V2 V1.
+pub(crate) fn trust() -> [u32; 15] {
+    [PI, PI, S, P, PI, S, PI, SAYS, A5, APP, V1, V0, APP, V2, V1]
+}
+
+// Bind Sign4 of that trust, Ret a4 App App App V0 C2 s7 Sign5 App C2 s7.
+pub(crate) fn trusting() -> [u32; 29] {
+    let proposition = trust();
+    let body = [RET, A4, APP, APP, APP, V0, C2, S7, SIGN5, APP, C2, S7];
+    let mut words = [BIND; 29];
+    words[1] = SIGN4;
+    lay(&proposition, &body, &mut words[2..]);
+    words
 }
 
 // Pi D, where D = Pi A Pi A A.

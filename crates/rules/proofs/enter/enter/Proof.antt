@@ -75,14 +75,8 @@ returns-4 c =
 kind-requires : tie.Need-kind-requires
 kind-requires c κs = search needs
 
-add-domain : tie.Need-add-domain
-add-domain c = search needs
-
-mul-domain : tie.Need-mul-domain
-mul-domain c = let w = within (c .before .before .before .before .before .before .before .before) in omega (arith, c .before .before .before .before .before .before .before .before .good)
-
-shared-slice-read-domain : tie.Need-shared-slice-read-domain
-shared-slice-read-domain c = let w = within (c .before .before .before .before .before .before .before .before .before) in omega arith
+slice-read-domain : tie.Need-slice-read-domain
+slice-read-domain c = search needs
 
 domain-requires : tie.Need-domain-requires
 domain-requires c κs = search needs
@@ -91,23 +85,20 @@ add-keep-domain : tie.Need-add-keep-domain
 add-keep-domain c = search needs
 
 keep-domain-requires : tie.Need-keep-domain-requires
-keep-domain-requires c κs = let s = c .before .before .before .before .before .before .before .before .before .before .before .before .before in let w = within s in (omega (arith, s .pre .room), omega arith, omega (arith, s .pre .short))
+keep-domain-requires c κs = let s = c .before .before .before .before .before .before .before .before .before .before .before .before in let w = within s in (omega (arith, s .pre .room), omega arith, omega (arith, s .pre .short))
 
 same-length-2 : tie.Need-same-length-2
 same-length-2 c = search needs
 
 returns-5 : tie.Need-returns-5
 returns-5 c =
-    let s = c .before .before .before .before .before .before .before .before .before .before .before .before .before .before .before .before in
-    λ o a A j. binder-passes (s .args .used) (s .pre .room) (s .pre .small) j (λ e. c .before .before .before .before .before .before .before .before .before .before .if3 .left (c .before .before .before .before .before .before .before .before .before .before .before .before .tag-of .ensures ∙ e)) (c .before .before .before .before .before .before .before .before .before .kind .ensures) (c .before .before .before .before .before .before .before .before .if5 .taken) (c .before .before .before .before .if6 .taken) (c .before .before .before .before .before .domain .ensures) (c .before .before .keep-domain .ensures)
-
-same-length-3 : tie.Need-same-length-3
-same-length-3 c = search needs
+    let s = c .before .before .before .before .before .before .before .before .before .before .before .before .before .before .before in
+    λ o a A j. binder-passes (s .args .used) (s .pre .room) (s .pre .small) j (λ e. c .before .before .before .before .before .before .before .before .before .if3 .left (c .before .before .before .before .before .before .before .before .before .before .before .tag-of .ensures ∙ e)) (c .before .before .before .before .before .before .before .before .kind .ensures) (c .before .before .before .before .before .before .before .if5 .taken) (c .before .before .before .before .if6 .taken) (c .before .before .before .before .before .domain .ensures) (c .before .before .keep-domain .ensures)
 
 returns-6 : tie.Need-returns-6
 returns-6 c =
-    let s = c .before .before .before .before .before .before .before .before .before .before .before .before in
-    λ o a A j. binder-fails (s .args .used) (s .pre .room) (s .pre .small) j (λ e. c .before .before .before .before .before .before .if3 .left (c .before .before .before .before .before .before .before .before .tag-of .ensures ∙ e)) (c .before .before .before .before .before .kind .ensures) (c .before .before .before .before .if5 .taken) (c .if6 .left) (c .before .domain .ensures)
+    let s = c .before .before .before .before .before .before .before .before .before .before .before in
+    λ o a A j. binder-fails (s .args .used) (s .pre .room) (s .pre .small) j (λ e. c .before .before .before .before .before .if3 .left (c .before .before .before .before .before .before .before .tag-of .ensures ∙ e)) (c .before .before .before .before .kind .ensures) (c .before .before .before .if5 .taken) (c .if6 .left) (c .before .domain .ensures)
 
 mul-front-is : tie.Need-mul-front-is
 mul-front-is c = search needs
@@ -115,16 +106,16 @@ mul-front-is c = search needs
 front-is-requires : tie.Need-front-is-requires
 front-is-requires c κs = search needs
 
-same-length-4 : tie.Need-same-length-4
-same-length-4 c = search needs
+same-length-3 : tie.Need-same-length-3
+same-length-3 c = search needs
 
 returns-7 : tie.Need-returns-7
 returns-7 c =
     let s = c .before .before .before .before .before .before .before .before .before .before .before in
     λ o a A j. plain-passes (s .args .used) (s .pre .room) (s .pre .small) j (λ e. c .before .before .before .before .before .before .if1 .left (c .before .before .before .before .before .before .before .tag-of .ensures ∙ e)) (c .before .before .before .before .kind .ensures) (c .before .before .before .if5 .left) (c .if7 .taken) (c .before .front-is .ensures A prinA (j .type) (j .type-words) refl tt)
 
-same-length-5 : tie.Need-same-length-5
-same-length-5 c = search needs
+same-length-4 : tie.Need-same-length-4
+same-length-4 c = search needs
 
 returns-8 : tie.Need-returns-8
 returns-8 c =
@@ -149,19 +140,16 @@ enter-spec =
     returns-3
     returns-4
     kind-requires
-    add-domain
-    mul-domain
-    shared-slice-read-domain
+    slice-read-domain
     domain-requires
     add-keep-domain
     keep-domain-requires
     same-length-2
     returns-5
-    same-length-3
     returns-6
     mul-front-is
     front-is-requires
-    same-length-4
+    same-length-3
     returns-7
-    same-length-5
+    same-length-4
     returns-8)
