@@ -154,18 +154,23 @@ fn refusals(register: &mut [u32; 64], short: &mut [u32; 63], granted: &[u32; 64]
     counts_line(register);
 }
 
+// Checks the proof that rests on a4's trust and on what a5 says.
+fn trusting_line(example: &[u8], register: &[u32]) {
+    let derived = trusting();
+    check_line(example, register, &derived);
+}
+
 // Document 02, slip 1: a4 trusts what a5 says of homes, whatever the property.
 fn trusts(register: &mut [u32; 64]) {
     heading(b"Trust in a whole property, on a register of 64 words");
     begin(register);
-    let derived = trusting();
-    check_line(b"the trust not said", register, &derived);
+    trusting_line(b"the trust not said", register);
     let stated = trust();
     say_line(b"a4 says the trust", register, 4, &stated);
-    check_line(b"App C2 s7 not said", register, &derived);
+    trusting_line(b"App C2 s7 not said", register);
     let said = statement();
     say_line(b"a5 says App C2 s7", register, 5, &said);
-    check_line(b"both said", register, &derived);
+    trusting_line(b"both said", register);
     counts_line(register);
 }
 
