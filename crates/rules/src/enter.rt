@@ -17,7 +17,7 @@ use moves::shift::shift_within;
 use words::part::copy_within;
 ghost use mathlib.Core.Path.{_≡_};
 ghost use mathlib.Core.List.{[], _∷_};
-ghost use Prim.Native.Nat.{ℕ, _+_, _-_, _≤_, _<_};
+ghost use Prim.Native.Nat.{ℕ, _+_, _-_, _≤_};
 ghost use lib.ListN.{length};
 ghost use Rattle.logic.specs.Limits.{most-words};
 ghost use Rattle.logic.specs.Term.{Op, bindO, Term, Says, size};
