@@ -45,13 +45,13 @@ use Rattle.rules.proofs.Kepts.{drop-written, written-before, written-in
 abbrev pub domain-word : ℕ → Bool
 domain-word w = eqb w (atomWord typeA) || eqb w (atomWord propA) || eqb w (atomWord kindPA)
 
-pub domain-first : (A : Term) (w : ℕ) → PlainType A → w ≡ first A → domain-word w ≡ domain A
-domain-first A w p e =
-    let is : (a : Atom) → InRangeAtom a → eqb w (atomWord a) ≡ same A (atom a) = λ a r.
-    same-test _ _
-    (λ t. same-yes (first-atom A a (in-range A p) r (sym e ∙ eqb-true _ _ t)))
-    (λ t. eq-eqb _ _ (e ∙ ap first (same-true A (atom a) t))) in
-    ap₂ _||_ (ap₂ _||_ (is typeA tt) (is propA tt)) (is kindPA tt)
+module _ (A : Term) (w : ℕ) (p : PlainType A) (e : w ≡ first A) where
+  -- whether a type is an atom is told by its first word
+  atom-first : (a : Atom) → InRangeAtom a → eqb w (atomWord a) ≡ same A (atom a)
+  atom-first a r = same-test _ _ (λ t. same-yes (first-atom A a (in-range A p) r (sym e ∙ eqb-true _ _ t))) (λ t. eq-eqb _ _ (e ∙ ap first (same-true A (atom a) t)))
+
+  pub domain-first : domain-word w ≡ domain A
+  domain-first = ap₂ _||_ (ap₂ _||_ (atom-first typeA tt) (atom-first propA tt)) (atom-first kindPA tt)
 
 -- ---- a type that is a node
 
