@@ -145,15 +145,15 @@ module _ (proof ws : List ℕ) (used at next n m end : ℕ) where
 
   -- the word is none of the others
   module _ (others : (eqb (getD proof at 0) (opWord appO) ≡ false) × (eqb (getD proof at 0) (opWord bindO) ≡ false) × (eqb (getD proof at 0) (opWord lamO) ≡ false) × (eqb (getD proof at 0) (opWord retO) ≡ false))
-      (prop : Bool) (is-prop : (B : Term) → TypeAt ws 0 B → m ≡ size B → prop ≡ same B P) where
+      (prop : Bool) (is-prop : (B : Term) → TypeAt ws 0 B → prop ≡ same B P) where
     pub formed-prop : prop ≡ true → (o : Op) (a b A B : Term) → Forms proof ws used at next n m end o a b A B → Formed (formed o at a b A B) end ws ws (Typed m end)
     unfolding formed size
     formed-prop t saysO a b A B j =
-        let f : same B P ≡ true = sym (is-prop B (j .second-type) (j .second-words)) ∙ t in
+        let f : same B P ≡ true = sym (is-prop B (j .second-type)) ∙ t in
         let q = same-true B P f in
         stays (same B P) P f (omega arith) (subst (TypeAt ws 0) q (j .second-type)) (j .second-words ∙ ap size q)
     formed-prop t piO a b A B j =
-        let f : same B P ≡ true = sym (is-prop B (j .second-type) (j .second-words)) ∙ t in
+        let f : same B P ≡ true = sym (is-prop B (j .second-type)) ∙ t in
         let z : size B ≡ 1 = ap size (same-true B P f) in
         stays (body B) B (ap (λ (x : Bool). x || same B KindP) f) (omega arith) (j .second-type) (j .second-words)
     formed-prop t lamO a b A B j = absurd (eqb-false _ _ (others .2) (word-is j))
@@ -162,14 +162,14 @@ module _ (proof ws : List ℕ) (used at next n m end : ℕ) where
     formed-prop t bindO a b A B j = absurd (eqb-false _ _ (others .1) (word-is j))
 
     module _ (no : prop ≡ false) where
-      not-prop : {B : Term} → TypeAt ws 0 B → m ≡ size B → same B P ≡ false
-      not-prop {B} h s = sym (is-prop B h s) ∙ no
+      not-prop : {B : Term} → TypeAt ws 0 B → same B P ≡ false
+      not-prop {B} h = sym (is-prop B h) ∙ no
 
       pub formed-no-says : eqb (getD proof at 0) (opWord saysO) ≡ true → (o : Op) (a b A B : Term) → Forms proof ws used at next n m end o a b A B → Formed (formed o at a b A B) end ws ws (Refused condition-fails at)
       unfolding formed
-      formed-no-says e = by-rule saysO ws (Refused condition-fails at) e (λ a b A B j. refuses _ condition-fails at end ws (fails at _ _ (not-prop (j .second-type) (j .second-words))))
+      formed-no-says e = by-rule saysO ws (Refused condition-fails at) e (λ a b A B j. refuses _ condition-fails at end ws (fails at _ _ (not-prop (j .second-type))))
 
-      module _ (no-says : eqb (getD proof at 0) (opWord saysO) ≡ false) (kind : Bool) (is-kind : (B : Term) → TypeAt ws 0 B → m ≡ size B → kind ≡ same B KindP) where
+      module _ (no-says : eqb (getD proof at 0) (opWord saysO) ≡ false) (kind : Bool) (is-kind : (B : Term) → TypeAt ws 0 B → kind ≡ same B KindP) where
         -- only a Pi is left
         the-pi : (o : Op) → getD proof at 0 ≡ opWord o → o ≡ piO
         the-pi saysO e = absurd (eqb-false _ _ no-says e)
@@ -183,16 +183,16 @@ module _ (proof ws : List ℕ) (used at next n m end : ℕ) where
             → (o : Op) (a b A B : Term) → Forms proof ws used at next n m end o a b A B → Formed (formed o at a b A B) end ws ws r
         by-pi r f o a b A B j = subst (λ (o : Op). Forms proof ws used at next n m end o a b A B → Formed (formed o at a b A B) end ws ws r) (sym (the-pi o (word-is j))) (f a b A B) j
 
-        body-is : {B : Term} → TypeAt ws 0 B → m ≡ size B → body B ≡ kind
-        body-is {B} h s = ap (λ (x : Bool). x || same B KindP) (not-prop h s) ∙ sym (is-kind B h s)
+        body-is : {B : Term} → TypeAt ws 0 B → body B ≡ kind
+        body-is {B} h = ap (λ (x : Bool). x || same B KindP) (not-prop h) ∙ sym (is-kind B h)
 
         pub formed-kind : kind ≡ true → (o : Op) (a b A B : Term) → Forms proof ws used at next n m end o a b A B → Formed (formed o at a b A B) end ws ws (Typed m end)
         unfolding formed size
         formed-kind t = by-pi (Typed m end) (λ a b A B j.
-            let f : body B ≡ true = body-is (j .second-type) (j .second-words) ∙ t in
-            let z : size B ≡ 1 = ap size (same-true B KindP (sym (is-kind B (j .second-type) (j .second-words)) ∙ t)) in
+            let f : body B ≡ true = body-is (j .second-type) ∙ t in
+            let z : size B ≡ 1 = ap size (same-true B KindP (sym (is-kind B (j .second-type)) ∙ t)) in
             stays (body B) B f (omega arith) (j .second-type) (j .second-words))
 
         pub formed-no-pi : kind ≡ false → (o : Op) (a b A B : Term) → Forms proof ws used at next n m end o a b A B → Formed (formed o at a b A B) end ws ws (Refused condition-fails at)
         unfolding formed
-        formed-no-pi t = by-pi (Refused condition-fails at) (λ a b A B j. refuses _ condition-fails at end ws (fails at _ _ (body-is (j .second-type) (j .second-words) ∙ t)))
+        formed-no-pi t = by-pi (Refused condition-fails at) (λ a b A B j. refuses _ condition-fails at end ws (fails at _ _ (body-is (j .second-type) ∙ t)))

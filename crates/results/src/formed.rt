@@ -52,7 +52,7 @@ pub fn formed(
         return pair(proof, ws, TAG_SAYS * PAYLOADS, at, next, m, end);
     }
     // a Says or a Pi: the type stays
-    let is_prop = front_is(&ws[..], m, TAG_PROP * PAYLOADS);
+    let is_prop = front_is(&ws[..], TAG_PROP * PAYLOADS);
     if is_prop {
         return Derivation::Typed { words: m, end };
     }
@@ -63,7 +63,7 @@ pub fn formed(
             place: at,
         };
     }
-    let is_kind = front_is(&ws[..], m, TAG_KIND_P * PAYLOADS);
+    let is_kind = front_is(&ws[..], TAG_KIND_P * PAYLOADS);
     if is_kind {
         return Derivation::Typed { words: m, end };
     }

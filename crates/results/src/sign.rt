@@ -21,7 +21,7 @@ pub fn sign(proof: &[u32], ws: &mut [u32], at: usize, n: usize, end: usize) -> D
     requires { ⌜ Signable (now proof) (now ws) at n end ⌝ }
     ensures { λ r. ⌜ ((a : ℕ) → (q s : Term) → Signs (now (proof .entry)) (now (ws .entry)) at n end a q s → Formed (sign-type at a q s) end (now (ws .entry)) (now (ws .exit)) r) ⌝ }
 {
-    let fine = front_is(&ws[..], n, TAG_PROP * PAYLOADS);
+    let fine = front_is(&ws[..], TAG_PROP * PAYLOADS);
     if !fine {
         return Derivation::Refused {
             number: CONDITION_FAILS,

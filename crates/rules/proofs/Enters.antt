@@ -9,34 +9,30 @@ use mathlib.Core.Option.{Option, some, none}
 use lib.Dec.{eqb}
 use lib.ListN.{length, take, drop, getD, length-append}
 use lib.IntN.{pos}
-use borrow.Author.Tests.{eqb-true, eq-eqb}
 use Rattle.logic.specs.Limits.{most-type-words}
 use Rattle.logic.specs.Refusals.{condition-fails}
 use Rattle.logic.specs.Result.{Result, ok, refused, _>>_, known}
 use Rattle.logic.specs.Tags.{tag-app, tag-bind, tag-kindP, tag-kindT}
-use Rattle.logic.specs.Term.{Atom, propA, typeA, kindPA, Op, saysO, piO, lamO, appO, retO, bindO, Op-discrete, Term, atom, var, sign, node, N, Says, word, tag-of, atomWord, opWord, encode, size}
+use Rattle.logic.specs.Term.{propA, typeA, kindPA, Op, saysO, piO, lamO, appO, retO, bindO, Op-discrete, Term, atom, var, sign, node, N, Says, word, tag-of, atomWord, opWord, encode, size}
 use Rattle.logic.specs.Move.{raise}
 use Rattle.logic.specs.Reading.{branch, shape, Plain, PlainType}
 use Rattle.logic.specs.Infer.{same, condition, domain, Parts, parts}
 use Rattle.logic.proofs.Basics.{clash}
-use Rattle.logic.proofs.Proposition.{same-true, same-yes}
 use Rattle.logic.proofs.Results.{then-is}
 use Rattle.logic.proofs.Stopped.{stop-then}
-use Rattle.logic.proofs.Words.{first, head, shape-first, InRangeAtom, first-atom, encode-size}
+use Rattle.logic.proofs.Words.{first, head, shape-first, encode-size}
 use Rattle.logic.specs.Kind.{kind-binder, opKind, kindOf}
 use Rattle.words.specs.Place.{At, written}
 use Rattle.moves.specs.Shift.{Shifted}
 use Rattle.words.specs.Typed.{TypeAt}
 use Rattle.words.proofs.Places.{words-head, at-left}
-use Rattle.words.proofs.Sames.{same-test}
-use Rattle.words.proofs.Types.{in-range}
 use Rattle.moves.proofs.Shifts.{length-shift}
 use Rattle.rules.specs.Rule.{ready}
 use Rattle.rules.specs.Scope.{tail, entry-head, entry}
 use Rattle.rules.specs.Form.{front-words, level-words}
 use Rattle.rules.specs.Enter.{Enters, keep-of, entered-answer, Entry-kept, Entering, Kept, Keepable}
 use Rattle.rules.specs.declared.enter.Entered.the-variants.{Fits, Fails}
-use Rattle.rules.proofs.Fronts.{type-part}
+use Rattle.rules.proofs.Fronts.{atom-first, type-part}
 use Rattle.rules.proofs.Kepts.{drop-written, written-before, written-inside, kept-tail, kept-type, kept-none}
 
 -- ---- a domain
@@ -45,13 +41,8 @@ use Rattle.rules.proofs.Kepts.{drop-written, written-before, written-in
 abbrev pub domain-word : ℕ → Bool
 domain-word w = eqb w (atomWord typeA) || eqb w (atomWord propA) || eqb w (atomWord kindPA)
 
-module _ (A : Term) (w : ℕ) (p : PlainType A) (e : w ≡ first A) where
-  -- whether a type is an atom is told by its first word
-  atom-first : (a : Atom) → InRangeAtom a → eqb w (atomWord a) ≡ same A (atom a)
-  atom-first a r = same-test _ _ (λ t. same-yes (first-atom A a (in-range A p) r (sym e ∙ eqb-true _ _ t))) (λ t. eq-eqb _ _ (e ∙ ap first (same-true A (atom a) t)))
-
-  pub domain-first : domain-word w ≡ domain A
-  domain-first = ap₂ _||_ (ap₂ _||_ (atom-first typeA tt) (atom-first propA tt)) (atom-first kindPA tt)
+pub domain-first : (A : Term) (w : ℕ) → PlainType A → w ≡ first A → domain-word w ≡ domain A
+domain-first A w p e = let is = atom-first A w p e in ap₂ _||_ (ap₂ _||_ (is typeA tt) (is propA tt)) (is kindPA tt)
 
 -- ---- a type that is a node
 

@@ -3,7 +3,7 @@ use Prim.Native.Nat.{ℕ, _+_, _-_, _≤_, _<_}
 use native.Mathlib.Omega.{arith}
 use mathlib.Core.Path.{_≡_, refl, sym, ap, subst, _∙_}
 use mathlib.Core.Bool.{Bool, true, false, not}
-use mathlib.Core.List.{List, [], _∷_, _++_, append-assoc}
+use mathlib.Core.List.{List, _++_, append-assoc}
 use lib.Dec.{eqb}
 use lib.ListN.{length, take, drop, getD}
 use lib.Seq.{drop-drop, take-at, drop-at, length-take-le}
@@ -11,50 +11,36 @@ use borrow.Author.Tests.{not-true, eqb-true, eq-eqb, le-leb, lt-leb}
 use Rattle.logic.specs.Limits.{most-type-words}
 use Rattle.logic.specs.Refusals.{condition-fails, type-too-long}
 use Rattle.logic.specs.Result.{Result, ok, refused, _>>_}
-use Rattle.logic.specs.Term.{Atom, Term, atom, var, sign, node, atomWord, encode, size}
+use Rattle.logic.specs.Term.{Atom, Term, atom, atomWord, encode, size}
 use Rattle.logic.specs.Reading.{PlainType}
 use Rattle.logic.specs.Infer.{same, condition, measured}
 use Rattle.logic.proofs.Basics.{clash}
-use Rattle.logic.proofs.Proposition.{same-true, same-yes, same-no}
+use Rattle.logic.proofs.Proposition.{same-true, same-yes}
 use Rattle.logic.proofs.Results.{ok-inj, bound}
 use Rattle.logic.proofs.Stopped.{not-mapped}
-use Rattle.logic.proofs.Words.{first, InRangeAtom, InRange, encode-size, encode-injective}
+use Rattle.logic.proofs.Words.{first, InRangeAtom, first-atom, encode-size}
 use Rattle.words.specs.Place.{written}
 use Rattle.words.specs.Typed.{TypeAt}
 use Rattle.words.proofs.Lists.{length-head}
-use Rattle.words.proofs.Places.{size-pos, words-head}
+use Rattle.words.proofs.Places.{words-head}
 use Rattle.words.proofs.Sames.{same-test}
 use Rattle.words.proofs.Types.{in-range}
 use Rattle.rules.specs.Form.{derivation-answer, ended, front-words, Formed}
 use Rattle.rules.specs.declared.derivation.Derivation.{Derivation}
 use Rattle.rules.specs.declared.derivation.Derivation.the-variants.{Typed, Refused}
 
--- ---- a type of one word
+-- ---- a type that is an atom
 
-one-word : (A : Term) → size A ≡ 1 → encode A ≡ first A ∷ []
-unfolding size encode
-one-word (atom a) e = refl
-one-word (var n) e = refl
-one-word (sign n q) e = let h = size-pos q in absurd (omega arith)
-one-word (node o a b) e = let h = size-pos a in absurd (omega arith)
+-- whether a type is an atom is told by its first word
+pub atom-first : (A : Term) (w : ℕ) → PlainType A → w ≡ first A → (a : Atom) → InRangeAtom a → eqb w (atomWord a) ≡ same A (atom a)
+atom-first A w p e a r = same-test _ _ (λ t. same-yes (first-atom A a (in-range A p) r (sym e ∙ eqb-true _ _ t))) (λ t. eq-eqb _ _ (e ∙ ap first (same-true A (atom a) t)))
 
 -- a test that was denied does not pass
 pub denied : (b : Bool) → not b ≡ true → b ≡ true → ⊥
 denied b e p = clash (cc (not-true b e))
 
-module _ (ws : List ℕ) (n w : ℕ) (A : Term) (a : Atom) (h : TypeAt ws 0 A) (s : n ≡ size A) (e : w ≡ atomWord a) (r : InRangeAtom a) where
-  pub front-word : n ≡ 1 → eqb (getD ws 0 0) w ≡ same A (atom a)
-  unfolding encode InRange
-  front-word q =
-      let f : getD ws 0 0 ≡ first A = words-head ws 0 A (h .rest) (h .words) in
-      let o = one-word A (sym s ∙ q) in
-      same-test _ _
-      (λ t. same-yes (encode-injective A (atom a) (in-range A (h .plain)) r (o ∙ ap (λ (x : ℕ). x ∷ []) (sym f ∙ eqb-true _ _ t ∙ e))))
-      (λ t. eq-eqb _ _ (f ∙ ap first (same-true A (atom a) t) ∙ sym e))
-
-  pub front-words-more : (n ≡ 1 → ⊥) → false ≡ same A (atom a)
-  unfolding size
-  front-words-more q = sym (same-no (λ t. q (s ∙ ap size t)))
+pub front-word : (ws : List ℕ) (w : ℕ) (A : Term) (a : Atom) → TypeAt ws 0 A → w ≡ atomWord a → InRangeAtom a → eqb (getD ws 0 0) w ≡ same A (atom a)
+front-word ws w A a h e r = ap (eqb (getD ws 0 0)) e ∙ atom-first A _ (h .plain) (words-head ws 0 A (h .rest) (h .words)) a r
 
 -- ---- what stands there, and what is written
 

@@ -126,7 +126,7 @@ pub fn enter(
         return Entered::Fails;
     }
     // a Says or a Ret
-    let fine = front_is(&ws[..], n, TAG_PRIN * PAYLOADS);
+    let fine = front_is(&ws[..], TAG_PRIN * PAYLOADS);
     if fine {
         return Entered::Fits { keep: 0, used };
     }

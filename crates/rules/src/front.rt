@@ -2,7 +2,7 @@
 ghost use mathlib.Core.Path.{_≡_};
 ghost use Prim.Native.Nat.{_<_};
 ghost use lib.ListN.{length};
-ghost use Rattle.logic.specs.Term.{Atom, Term, atom, atomWord, size};
+ghost use Rattle.logic.specs.Term.{Atom, Term, atom, atomWord};
 ghost use Rattle.logic.specs.Infer.{same};
 ghost use Rattle.logic.proofs.Words.{InRangeAtom};
 ghost use Rattle.words.specs.Typed.{TypeAt};
@@ -10,10 +10,10 @@ ghost use Rattle.words.specs.Typed.{TypeAt};
 // The words of a local buffer for a type that is not long: local buffers are cleared only where they must be.
 pub const SMALL: usize = 32;
 
-// Whether the type of n words at the front is the one word given.
-pub fn front_is(ws: &[u32], n: usize, word: u32) -> bool
+// Whether the type at the front is the atom of this word; no other type begins with it.
+pub fn front_is(ws: &[u32], word: u32) -> bool
     requires { ⌜ 0 < length (now ws) ⌝ }
-    ensures { λ r. ⌜ ((A : Term) → (a : Atom) → TypeAt (now (ws .entry)) 0 A → n ≡ size A → word ≡ atomWord a → InRangeAtom a → r ≡ same A (atom a)) ⌝ }
+    ensures { λ r. ⌜ ((A : Term) → (a : Atom) → TypeAt (now (ws .entry)) 0 A → word ≡ atomWord a → InRangeAtom a → r ≡ same A (atom a)) ⌝ }
 {
-    if n == 1 { ws[0] == word } else { false }
+    ws[0] == word
 }

@@ -109,8 +109,8 @@ module _ (Σ : List Term) (sig : List ℕ) (at : ℕ) (l : at < length sig) wher
     not-typed new r end m p J q = sym (tests ∙ typed-refused m p (refused-by _ end (J .answer) m p q))
 
     pub typed-kind : (new : List ℕ) (r : Derivation) (end words e : ℕ) (b : Bool) → Judged (typed-term Σ most-words most-nesting (take n ws)) end new r → r ≡ Typed words e
-        → ((A : Term) → TypeAt new 0 A → words ≡ size A → b ≡ same A KindP) → b ≡ constant-at Σ (drop at sig)
-    typed-kind new r end words e b J q f = typed-by _ end (J .answer) words e q λ A i w l. sym (tests ∙ typed-ok A i ∙ sym (f A (subst (λ (x : Result Term). Front x new) i (J .front)) w))
+        → ((A : Term) → TypeAt new 0 A → b ≡ same A KindP) → b ≡ constant-at Σ (drop at sig)
+    typed-kind new r end words e b J q f = typed-by _ end (J .answer) words e q λ A i w l. sym (tests ∙ typed-ok A i ∙ sym (f A (subst (λ (x : Result Term). Front x new) i (J .front))))
 
 -- ---- the types of a permit and of a receipt
 

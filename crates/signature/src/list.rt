@@ -76,7 +76,7 @@ fn constant(sig: &[u32], table: &[u32], at: usize, ws: &mut [u32]) -> bool
             number: _,
             place: _,
         } => false,
-        Derivation::Typed { words, end: _ } => front_is(&ws[..], words, TAG_KIND_P * PAYLOADS),
+        Derivation::Typed { words: _, end: _ } => front_is(&ws[..], TAG_KIND_P * PAYLOADS),
     }
 }
 

@@ -86,7 +86,7 @@ pub fn check_statement(sig: &[u32], table: &[u32], proposition: &[u32], ws: &mut
     match typed {
         Derivation::Refused { number, place } => Verdict::Fault { number, place },
         Derivation::Typed { words, end: _ } => {
-            let fine = front_is(&ws[..], words, TAG_PROP * PAYLOADS);
+            let fine = front_is(&ws[..], TAG_PROP * PAYLOADS);
             if !fine {
                 return Verdict::Fault {
                     number: CONDITION_FAILS,

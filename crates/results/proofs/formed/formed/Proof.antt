@@ -6,7 +6,7 @@ use lib.ListN.{length, getD}
 use lib.Dec.{eqb}
 use borrow.Author.Needs.{needs}
 use Rattle.logic.specs.Infer.{same}
-use Rattle.logic.specs.Term.{propA, kindPA, lamO, appO, retO, bindO, Term, P, KindP, opWord, size}
+use Rattle.logic.specs.Term.{propA, kindPA, lamO, appO, retO, bindO, Term, P, KindP, opWord}
 use Rattle.words.specs.Typed.{TypeAt}
 use Rattle.words.proofs.Types.{at-type, type-within}
 use Rattle.results.proofs.Formings.{formed-app, formed-bind, formed-lam, formed-ret, appliable, bindable, pairable, formed-prop, formed-no-says, formed-kind, formed-no-pi}
@@ -21,11 +21,11 @@ others : (c : tie.Else4) → (eqb (getD (c .before .before .before .before .befo
 others c = (c .before .before .before .if1 .left, c .before .before .if2 .left, c .before .if3 .left, c .if4 .left)
 
 -- what the tests say, of any type that stands there
-is-prop : (c : tie.After-front-is) (B : Term) → TypeAt (c .before .before .before .before .before .before .before .before .before .args .ws .now) 0 B → c .before .before .before .before .before .before .before .before .before .args .m ≡ size B → c .front-is .result ≡ same B P
-is-prop c B h s = c .front-is .ensures B propA h s refl tt
+is-prop : (c : tie.After-front-is) (B : Term) → TypeAt (c .before .before .before .before .before .before .before .before .before .args .ws .now) 0 B → c .front-is .result ≡ same B P
+is-prop c B h = c .front-is .ensures B propA h refl tt
 
-is-kind : (c : tie.After-front-is2) (B : Term) → TypeAt (c .before .before .before .before .before .before .before .before .before .before .before .before .before .args .ws .now) 0 B → c .before .before .before .before .before .before .before .before .before .before .before .before .before .args .m ≡ size B → c .front-is2 .result ≡ same B KindP
-is-kind c B h s = c .front-is2 .ensures B kindPA h s refl tt
+is-kind : (c : tie.After-front-is2) (B : Term) → TypeAt (c .before .before .before .before .before .before .before .before .before .before .before .before .before .args .ws .now) 0 B → c .front-is2 .result ≡ same B KindP
+is-kind c B h = c .front-is2 .ensures B kindPA h refl tt
 
 mul-word : tie.Need-mul-word
 mul-word c = let z = within (c .before .before) in omega (arith, c .before .before .pre .short)

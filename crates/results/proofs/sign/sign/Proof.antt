@@ -32,7 +32,7 @@ sizes s =
 
 -- what the test says, of any Sign that stands there
 fine : (c : tie.After-front-is) (a : ℕ) (q s : Term) → Signs (c .before .before .before .before .args .proof .now) (c .before .before .before .before .args .ws .now) (c .before .before .before .before .args .at) (c .before .before .before .before .args .n) (c .before .before .before .before .args .end) a q s → c .front-is .result ≡ same s P
-fine c a q s j = c .front-is .ensures s propA (j .type) (j .type-words) refl tt
+fine c a q s j = c .front-is .ensures s propA (j .type) refl tt
 
 mul-front-is : tie.Need-mul-front-is
 mul-front-is c = search needs

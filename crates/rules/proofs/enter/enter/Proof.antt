@@ -112,7 +112,7 @@ same-length-3 c = search needs
 returns-7 : tie.Need-returns-7
 returns-7 c =
     let s = c .before .before .before .before .before .before .before .before .before .before .before in
-    λ o a A j. plain-passes (s .args .used) (s .pre .room) (s .pre .small) j (λ e. c .before .before .before .before .before .before .if1 .left (c .before .before .before .before .before .before .before .tag-of .ensures ∙ e)) (c .before .before .before .before .kind .ensures) (c .before .before .before .if5 .left) (c .if7 .taken) (c .before .front-is .ensures A prinA (j .type) (j .type-words) refl tt)
+    λ o a A j. plain-passes (s .args .used) (s .pre .room) (s .pre .small) j (λ e. c .before .before .before .before .before .before .if1 .left (c .before .before .before .before .before .before .before .tag-of .ensures ∙ e)) (c .before .before .before .before .kind .ensures) (c .before .before .before .if5 .left) (c .if7 .taken) (c .before .front-is .ensures A prinA (j .type) refl tt)
 
 same-length-4 : tie.Need-same-length-4
 same-length-4 c = search needs
@@ -120,7 +120,7 @@ same-length-4 c = search needs
 returns-8 : tie.Need-returns-8
 returns-8 c =
     let s = c .before .before .before .before .before .before .before .before .before .before .before in
-    λ o a A j. plain-fails (s .args .used) (s .pre .room) (s .pre .small) j (λ e. c .before .before .before .before .before .before .if1 .left (c .before .before .before .before .before .before .before .tag-of .ensures ∙ e)) (c .before .before .before .before .kind .ensures) (c .before .before .before .if5 .left) (c .if7 .left) (c .before .front-is .ensures A prinA (j .type) (j .type-words) refl tt)
+    λ o a A j. plain-fails (s .args .used) (s .pre .room) (s .pre .small) j (λ e. c .before .before .before .before .before .before .if1 .left (c .before .before .before .before .before .before .before .tag-of .ensures ∙ e)) (c .before .before .before .before .kind .ensures) (c .before .before .before .if5 .left) (c .if7 .left) (c .before .front-is .ensures A prinA (j .type) refl tt)
 
 pub enter-spec : {M : Type 1} → statement M
 enter-spec =

@@ -95,8 +95,8 @@ check-term-requires c κs = search needs
 enum-told : tie.Need-enum-told
 enum-told c = search needs
 
-enum-known-typed : tie.Need-enum-known-typed
-enum-known-typed c = search needs
+enum-told-2 : tie.Need-enum-told-2
+enum-told-2 c = search needs
 
 mul-front-is : tie.Need-mul-front-is
 mul-front-is c = search needs
@@ -117,9 +117,9 @@ same-length-2 c = search needs
 
 returns-6 : tie.Need-returns-6
 returns-6 c =
-    let s = c .before .before .before .before .before .before .before .before .before .before .before .before .before .before .before .before .before .before .before .before in
-    λ Σ C. typed-kind Σ (s .args .sig .now) (s .args .at) (s .pre .inside) (c .before .before .before .before .before .before .before .before .before .before .before .before .before .before .before .if1 .left) (c .before .before .before .before .before .before .before .before .before .before .before .before .before .before .if2 .left) (c .before .before .before .before .before .before .before .before .before .before .before .before .before .if3 .left) _ (c .before .before .before .before .before .before .before .check-term .result) _ _ _ (c .front-is .result) (judged (c .before .before .before .before .before .before .before) Σ C) (c .before .before .before .typed .given .1)
-    (λ A h e. c .front-is .ensures A kindPA h e refl tt)
+    let s = c .before .before .before .before .before .before .before .before .before .before .before .before .before .before .before .before .before .before .before in
+    λ Σ C. typed-kind Σ (s .args .sig .now) (s .args .at) (s .pre .inside) (c .before .before .before .before .before .before .before .before .before .before .before .before .before .before .if1 .left) (c .before .before .before .before .before .before .before .before .before .before .before .before .before .if2 .left) (c .before .before .before .before .before .before .before .before .before .before .before .before .if3 .left) _ (c .before .before .before .before .before .before .check-term .result) _ _ _ (c .front-is .result) (judged (c .before .before .before .before .before .before) Σ C) (c .before .before .enum-told2 .given .1)
+    (λ A h. c .front-is .ensures A kindPA h refl tt)
 
 pub constant-spec : {M : Type 1} → statement M
 constant-spec =
@@ -147,7 +147,7 @@ constant-spec =
     part-check-term-end
     check-term-requires
     enum-told
-    enum-known-typed
+    enum-told-2
     mul-front-is
     front-is-requires
     same-length

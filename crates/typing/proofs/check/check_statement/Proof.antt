@@ -17,7 +17,7 @@ typed c Σ a C = statement-typed Σ a (c .before .before .before .before .before
 
 -- the test of its type
 proposed : (c : tie.After-front-is) (Σ : List Term) (a : ℕ) (C : Constants-of (c .before .before .before .before .before .before .before .before .before .before .before .before .before .args .sig .now) (c .before .before .before .before .before .before .before .before .before .before .before .before .before .args .table .now) Σ) → c .front-is .result ≡ same (typed c Σ a C .A) P
-proposed c Σ a C = let S = typed c Σ a C in c .front-is .ensures (S .A) propA (S .type) (S .type-words) refl tt
+proposed c Σ a C = let S = typed c Σ a C in c .front-is .ensures (S .A) propA (S .type) refl tt
 
 check-term-requires : tie.Need-check-term-requires
 check-term-requires c κs = search needs
