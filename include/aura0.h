@@ -14,7 +14,7 @@
 extern "C" {
 #endif
 
-// Document 01's refusal numbers, in the order of its table: "Tests run in this order".
+// Document 01's refusal numbers, in the order of its table: "Tests run in this order". Beside 11 stand 18 to 20 of document 02, slip 2, "each met where 11 was".
 enum {
     AURA0_WORKSPACE_SHORT = 1,      // workspace short
     AURA0_REGISTER_LENGTH = 2,      // register length
@@ -27,7 +27,10 @@ enum {
     AURA0_NESTING = 8,              // nesting; place: first word at depth 33
     AURA0_UNBOUND_VARIABLE = 9,     // unbound variable
     AURA0_UNKNOWN_CONSTANT = 10,    // unknown constant
-    AURA0_CONDITION_FAILS = 11,     // a rule's condition fails
+    AURA0_CONDITION_FAILS = 11,     // a rule's condition fails, other than 18 to 20
+    AURA0_NOT_A_FUNCTION = 18,      // the function of an App has no Pi type
+    AURA0_ARGUMENT_MISMATCH = 19,   // the argument of an App has another type than the domain
+    AURA0_VARIABLE_ESCAPES = 20,    // the variable of a Bind stands in what its body proves
     AURA0_TYPE_TOO_LONG = 12,       // type over 256 words
     AURA0_ANOTHER_PROPOSITION = 13, // another proposition proved
     AURA0_NOT_HELD = 14,            // signature not held; place: first such Sign

@@ -11,7 +11,7 @@
 #include <unistd.h>
 #include "../include/aura0.h"
 
-enum { LEVEL = 1, MOST = 1 << 21, GUARD = 16, PATTERN = 0x5a5a5a5a };
+enum { LEVEL = 2, MOST = 1 << 21, GUARD = 16, PATTERN = 0x5a5a5a5a };
 
 // a lent list of words, with a guard behind it, and what it held before the call
 struct lent {

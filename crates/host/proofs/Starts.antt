@@ -9,7 +9,7 @@ use lib.ListN.{length, take, drop, getD, getElem?, length-append, take-append-dr
 use lib.Seq.{take-at}
 use borrow.Author.Tests.{leb-true}
 use Rattle.logic.specs.Limits.{least-register, most-register}
-use Rattle.logic.specs.Refusals.{past-last-record}
+use Rattle.logic.specs.Refusals.{past-last-record, last-number}
 use Rattle.logic.specs.Result.{Result, ok, refused, _>>=_, _>>_, known, number-of}
 use Rattle.logic.proofs.Basics.{clash}
 use Rattle.logic.proofs.Results.{bound, tested, found, both-true}
@@ -56,7 +56,7 @@ module _ (reg : List ℕ) (k m : ℕ) (n : m ≡ number-of (read-call reg k)) wh
       go (ok r) e f = absurd (ne f)
       go (refused m′ p) e f = let (l, z) = read-bound reg k e in ap₂ refused (sym f) z
 
-  pub number-fits : (m ≡ 0 → ⊥) → m ≤ past-last-record
+  pub number-fits : (m ≡ 0 → ⊥) → m ≤ last-number
   number-fits ne = read-bound reg k (refused-is ne) .0 .1
 
   pub not-read : (kind : ℕ) (body : List ℕ) (code : ℕ) → (m ≡ 0 → ⊥) → kind ≡ kind-of (read-call reg k) → body ≡ body-of (read-call reg k) → code ≡ m * number-unit + 0 → Read-to reg k kind 0 (length body) code

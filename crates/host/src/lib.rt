@@ -14,7 +14,7 @@ use say::say;
 ghost use mathlib.Core.Path.{_≡_};
 ghost use Prim.Native.Nat.{_+_, _*_, _≤_, _<_};
 ghost use lib.ListN.{length};
-ghost use Rattle.logic.specs.Refusals.{past-last-record};
+ghost use Rattle.logic.specs.Refusals.{last-number};
 ghost use Rattle.register.specs.Calls.{open-call, say-call, request-call, check-call};
 ghost use Rattle.calls.specs.Shared.{lent-of};
 ghost use Rattle.host.specs.Answers.{number-unit, place-limit, code-of, Opened-to, Said-to, Requested-to, Typed-to, Read-to};
@@ -23,7 +23,7 @@ ghost use Rattle.host.specs.Answers.{number-unit, place-limit, code-of, 
 const NUMBER_UNIT: u64 = 4294967296;
 
 fn code(number: u32, place: usize) -> u64
-    requires { ⌜ (number ≤ past-last-record) × (place < place-limit) ⌝ }
+    requires { ⌜ (number ≤ last-number) × (place < place-limit) ⌝ }
     ensures { λ r. ⌜ r ≡ number * number-unit + place ⌝ }
 {
     (number as u64) * NUMBER_UNIT + (place as u64)

@@ -39,7 +39,10 @@ sentences = record {
   app = refl;
   app-raised = refl;
   app-of-string = refl;
+  app-of-said = refl;
+  app-of-sort = refl;
   app-to-principal = refl;
+  app-to-prop = refl;
   signed = refl;
   sign-string = refl;
   ret = refl;
@@ -50,4 +53,6 @@ sentences = record {
   bind-of-string = refl;
   bind-to-string = refl;
   bind-by-other = refl;
+  bind-escape = refl;
+  bind-escape-by-other = refl;
 }

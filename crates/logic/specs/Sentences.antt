@@ -1,5 +1,6 @@
 -- Document 01's section on typing with document 02's changes, a sentence at a time: what each rule types and where it
 -- breaks, by literals, with the sample signature. proofs/Sentences computes them, so that they rest on no other proof.
+use Prim.Native.Nat.{ℕ}
 use mathlib.Core.Path.{_≡_}
 use Rattle.logic.specs.Result.{ok, refused}
 use Rattle.logic.specs.Term.{Term, var, sign, P, T′, S, N, KindP, KindT, Const, Text, Name, Says, Pi, Lam, App, Ret, Bind, encode}
@@ -11,13 +12,22 @@ infixl 5 _has-type_
 abbrev pub _has-type_ : Term → Term → Type 0
 t has-type A = answer-to sample (encode t) ≡ ok A
 
--- a condition of the node at word 0 breaks
+infixl 5 _refused-with_
+-- the words of t are refused with the number m at word 0
+abbrev pub _refused-with_ : Term → ℕ → Type 0
+t refused-with m = answer-to sample (encode t) ≡ refused m 0
+
+-- a condition of the node at word 0 breaks, and has no number of its own
 abbrev pub Breaks : Term → Type 0
-Breaks t = answer-to sample (encode t) ≡ refused 11 0
+Breaks t = t refused-with 11
 
 -- a function whose type has its argument's variable under a binder
 abbrev pub told-to-all : Term
 told-to-all = Pi S (Pi N (Says (var 0) (App (Const 2) (var 1))))
+
+-- a proof of a proposition in which variable 0, a proof of the consent, stands
+abbrev pub of-consent : Term
+of-consent = Lam (App (Const 3) (var 0)) (var 0)
 
 pub record Sentences : Type 0 where
   -- "P : KindP. T : KindT. S : T. N : T. sn : S. an : N."
@@ -55,8 +65,12 @@ pub record Sentences : Type 0 where
   -- "App f e is typed if f : Pi d B and e : d; its type is B filled with e", the filler raised under each binder
   pub app : App (Const 1) (Text 7) has-type Pi S P
   pub app-raised : Lam S (Lam told-to-all (App (var 0) (var 1))) has-type Pi S (Pi told-to-all (Pi N (Says (var 0) (App (Const 2) (var 2)))))
-  pub app-of-string : Breaks (App (Text 7) (Text 7))
-  pub app-to-principal : Breaks (App (Const 2) (Name 3))
+  -- "18 for the function, 19 for the argument (App C0 a3)" (document 02, slip 2)
+  pub app-of-string : App (Text 7) (Text 7) refused-with 18
+  pub app-of-said : App (sign 3 consent) (Text 7) refused-with 18
+  pub app-of-sort : App P P refused-with 18
+  pub app-to-principal : App (Const 2) (Name 3) refused-with 19
+  pub app-to-prop : App (Const 2) P refused-with 19
   -- "Signn Q : Says an Q if Q : P with no variables in scope."
   pub signed : sign 3 consent has-type Says (Name 3) consent
   pub sign-string : Breaks (sign 3 (Text 7))
@@ -71,3 +85,7 @@ pub record Sentences : Type 0 where
   pub bind-of-string : Breaks (Bind (Text 7) (Ret (Name 3) (var 0)))
   pub bind-to-string : Breaks (Bind (sign 3 consent) (Text 7))
   pub bind-by-other : Breaks (Bind (sign 3 consent) (Ret (Name 4) (var 0)))
+  -- "20 for the escape"; "a Bind whose body another principal says stays 11, even if its variable escapes too" (document
+  -- 02, slip 2)
+  pub bind-escape : Bind (sign 3 consent) (Ret (Name 3) of-consent) refused-with 20
+  pub bind-escape-by-other : Breaks (Bind (sign 3 consent) (Ret (Name 4) of-consent))

@@ -1,4 +1,4 @@
--- Every refusal of a call has one of document 01's numbers, 1 to 17, and a place within what was lent.
+-- Every refusal of a call has a number from 1 to 20, as documents 01 and 02 give them, and a place within what was lent.
 use Prim.Native.Nat.{ℕ, zero, suc, _+_, _-_, _≤_}
 use mathlib.Core.Path.{_≡_, refl, sym, ap, _∙_}
 use mathlib.Core.Bool.{Bool, true, false, _&&_, not}
@@ -9,7 +9,7 @@ use lib.Dec.{leb, ltb, eqb}
 use lib.ListN.{length, take, drop, getElem?, length-drop, length-append}
 use borrow.Author.Tests.{leb-true}
 use Rattle.logic.specs.Limits.{most-type-words, most-words, most-nesting, most-statement-words, most-statement-nesting, least-workspace, least-register, most-register, most-constants, most-constant-words}
-use Rattle.logic.specs.Refusals.{bad-signature, malformed, past-last-record}
+use Rattle.logic.specs.Refusals.{bad-signature, malformed, last-number}
 use Rattle.logic.specs.Result.{Result, ok, refused, _>>=_, _>>_, require, known, nowhere, pick}
 use Rattle.logic.specs.Term.{propA, typeA, stringA, prinA, kindPA, kindTA, constA, textA, nameA, saysO, piO, lamO, appO, retO, bindO, Atom, Term, atom, var, sign, node, P, N, Name, Says, Pi, encode, size}
 use Rattle.logic.specs.Move.{raise, lower, fill, occurs}
@@ -27,9 +27,9 @@ use Rattle.logic.proofs.Places.{stands-words}
 use Rattle.register.specs.Records.{Record, header, used, count, records, register-records, held, words-of, statement, say-kind}
 use Rattle.register.specs.Calls.{Lent, View, payload, Holding, length-test, shared, signs-held, fits, check-own, check-call, say-own, say-call, permission, entry, request-own, request-call, at-rule, with-rule, opening, open-own, open-call, read-call}
 
--- one of document 01's refusal numbers
+-- a refusal number of document 01 or 02
 abbrev pub Number : ℕ → Type 0
-Number m = (1 ≤ m) × (m ≤ past-last-record)
+Number m = (1 ≤ m) × (m ≤ last-number)
 
 -- where a result is a refusal, it has such a number and a place up to the bound
 pub data Within {X : Type 0} (bound : ℕ) : Result X → Type 0 where
@@ -83,7 +83,7 @@ wider : {X : Type 0} {b c : ℕ} {r : Result X} → b ≤ c → Within b r → W
 wider l passed = passed
 wider l (inside {p} a b) = inside {p = p} a (omega arith)
 
--- ---- tests 6 to 12
+-- ---- tests 6 to 12, and 18 to 20
 
 measured-within : {bound : ℕ} (at : ℕ) (A : Term) → at ≤ bound → Within bound (measured at A)
 measured-within at A h = then-within (require (leb (size A) most-type-words) _ at) (ok A) (require-within (leb (size A) most-type-words) _ at (omega arith) h) passed
@@ -100,7 +100,7 @@ atom-within Σ at (textA n) h = passed
 atom-within Σ at (nameA n) h = passed
 
 module _ (Σ : List Term) {bound : ℕ} where
-  -- 9 to 12 are at words of the term
+  -- 9 to 12 and 18 to 20 are at words of the term
   infer-within : (t : Term) (Γ : List Term) (at : ℕ) → at + size t ≤ bound → Within bound (infer Σ Γ at t)
   unfolding infer size
   infer-within (atom a) Γ at h = bind-within (infer-atom Σ at a) _ (atom-within Σ at a (omega arith)) λ A _. measured-within at A (omega arith)

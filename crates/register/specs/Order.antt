@@ -5,9 +5,10 @@ use mathlib.Core.Path.{_≡_}
 use mathlib.Core.List.{List, [], _∷_, _++_}
 use lib.ListN.{replicate}
 use Rattle.logic.specs.Result.{refused}
-use Rattle.logic.specs.Term.{Term, var, sign, Const, Name, Says, Pi, App, size, encode}
+use Rattle.logic.specs.Term.{Term, var, sign, Const, Text, Name, Says, Pi, App, Ret, Bind, size, encode}
 use Rattle.logic.specs.Worked.{sample, consent, rule, p}
 use Rattle.logic.specs.Order.{within-signs}
+use Rattle.logic.specs.Sentences.{of-consent}
 use Rattle.register.specs.Calls.{Lent, check-call, request-call, say-call, open-call, read-call}
 use Rattle.register.specs.Worked.{listed}
 
@@ -34,12 +35,22 @@ empty-register = 2 ∷ 0 ∷ []
 abbrev pub embeds : Term
 embeds = Pi (Pi (Says (Name 3) consent) consent) (App (Const 3) (App (var 0) (sign 3 consent)))
 
+-- terms of 18, 19 and 20, each with a Sign that is not held
+abbrev pub bad-function : Term
+bad-function = App (Text 7) (sign 3 consent)
+
+abbrev pub bad-argument : Term
+bad-argument = App (Const 2) (sign 3 consent)
+
+abbrev pub escape : Term
+escape = Bind (sign 3 consent) (Ret (Name 3) of-consent)
+
 -- a rule as words of a rule list
 abbrev pub listed-rule : ℕ → Term → List ℕ
 listed-rule a q = a ∷ size q ∷ encode q
 
 pub record CallOrder : Type 0 where
-  -- check: 1 to 8, then 9 to 12 as met, then 14
+  -- check: 1 to 8, then 9 to 12 and 18 to 20 as met, then 14
   pub check-1 : check-call (with-lent 12287 no-constant 0) [] [] ≡ refused 1 0
   pub check-2 : check-call (with-lent 12288 no-constant 0) [] [] ≡ refused 2 0
   pub check-3 : check-call (with-lent 12288 no-constant 0) broken-register [] ≡ refused 3 0
@@ -50,6 +61,9 @@ pub record CallOrder : Type 0 where
   pub check-7 : check-call lends empty-register (replicate 2048 0) ≡ refused 7 0
   pub check-8 : check-call lends empty-register (encode (within-signs 32 (var 0))) ≡ refused 8 32
   pub check-9 : check-call lends empty-register (encode (sign 3 (var 0))) ≡ refused 9 1
+  pub check-18 : check-call lends empty-register (encode bad-function) ≡ refused 18 0
+  pub check-19 : check-call lends empty-register (encode bad-argument) ≡ refused 19 0
+  pub check-20 : check-call lends empty-register (encode escape) ≡ refused 20 0
   pub check-14 : check-call lends empty-register (encode (sign 3 consent)) ≡ refused 14 0
   -- request: the same, i, v and u before the proof, and 13, 14, 16
   pub request-1 : request-call (with-lent 12287 no-constant 0) [] 1 16777216 16777216 [] ≡ refused 1 0
@@ -61,6 +75,9 @@ pub record CallOrder : Type 0 where
   pub request-5-u : request-call lends empty-register 0 7 16777216 [] ≡ refused 5 0
   pub request-6 : request-call lends empty-register 0 7 9 [] ≡ refused 6 0
   pub request-9 : request-call lends empty-register 0 7 9 (encode (sign 3 (var 0))) ≡ refused 9 1
+  pub request-18 : request-call lends empty-register 0 7 9 (encode bad-function) ≡ refused 18 0
+  pub request-19 : request-call lends empty-register 0 7 9 (encode bad-argument) ≡ refused 19 0
+  pub request-20 : request-call lends empty-register 0 7 9 (encode escape) ≡ refused 20 0
   pub request-13 : request-call lends empty-register 0 7 9 (encode (sign 3 consent)) ≡ refused 13 0
   pub request-14 : request-call lends empty-register 0 7 9 (encode p) ≡ refused 14 1
   -- say: 5 for n before 15, 15 before the proposition, whose limits are one less, 14 before 16
@@ -76,6 +93,9 @@ pub record CallOrder : Type 0 where
   pub say-7 : say-call lends empty-register 4 (replicate 2047 0) ≡ refused 7 0
   pub say-8 : say-call lends empty-register 4 (encode (within-signs 31 (var 0))) ≡ refused 8 31
   pub say-9 : say-call lends empty-register 4 (encode (sign 3 (var 0))) ≡ refused 9 1
+  pub say-18 : say-call lends empty-register 4 (encode bad-function) ≡ refused 18 0
+  pub say-19 : say-call lends empty-register 4 (encode bad-argument) ≡ refused 19 0
+  pub say-20 : say-call lends empty-register 4 (encode escape) ≡ refused 20 0
   pub say-14 : say-call lends empty-register 4 (encode embeds) ≡ refused 14 14
   pub say-16 : say-call lends empty-register 3 (encode consent) ≡ refused 16 0
   -- open: no 3; then rules in turn, each at its principal word; 16 last
@@ -89,6 +109,9 @@ pub record CallOrder : Type 0 where
   pub open-rule-7 : open-call lends broken-register (listed-rule 0 rule ++ (0 ∷ [])) ≡ refused 7 15
   pub open-rule-7-cut : open-call lends broken-register (listed-rule 0 rule ++ (0 ∷ 2047 ∷ [])) ≡ refused 7 15
   pub open-rule-9 : open-call lends broken-register (listed-rule 0 rule ++ listed-rule 0 (sign 3 (var 0))) ≡ refused 9 15
+  pub open-rule-18 : open-call lends broken-register (listed-rule 0 rule ++ listed-rule 0 bad-function) ≡ refused 18 15
+  pub open-rule-19 : open-call lends broken-register (listed-rule 0 rule ++ listed-rule 0 bad-argument) ≡ refused 19 15
+  pub open-rule-20 : open-call lends broken-register (listed-rule 0 rule ++ listed-rule 0 escape) ≡ refused 20 15
   pub open-rule-14 : open-call lends broken-register (listed-rule 0 rule ++ listed-rule 4 embeds ++ (16777216 ∷ [])) ≡ refused 14 15
   pub open-16 : open-call lends broken-register (listed-rule 0 rule) ≡ refused 16 0
   -- read: 2, 3, 17

@@ -15,6 +15,7 @@ use Rattle.logic.specs.Move.{raise}
 use Rattle.logic.specs.Reading.{branch, shape}
 use Rattle.logic.specs.Infer.{same, condition, body, measured}
 use Rattle.logic.proofs.Results.{pass}
+use Rattle.logic.proofs.Stopped.{fail}
 use Rattle.logic.proofs.Proposition.{same-true}
 use Rattle.words.specs.Place.{At}
 use Rattle.words.specs.Typed.{TypeAt}
@@ -26,7 +27,7 @@ use Rattle.rules.specs.Enter.{keep-of}
 use Rattle.results.specs.Results.{Applies, Appliable, Pairs, Pairable, Binds, Bindable, Forms, Formable}
 use Rattle.rules.specs.declared.derivation.Derivation.{Derivation}
 use Rattle.rules.specs.declared.derivation.Derivation.the-variants.{Typed, Refused}
-use Rattle.rules.proofs.Fronts.{fails, measured-fits, refuses, types}
+use Rattle.rules.proofs.Fronts.{measured-fits, refuses, types}
 use Rattle.results.proofs.Results.{node-plain}
 
 op-shape : (o : Op) → shape (opWord o) ≡ branch o
@@ -167,7 +168,7 @@ module _ (proof ws : List ℕ) (used at next n m end : ℕ) where
 
       pub formed-no-says : eqb (getD proof at 0) (opWord saysO) ≡ true → (o : Op) (a b A B : Term) → Forms proof ws used at next n m end o a b A B → Formed (formed o at a b A B) end ws ws (Refused condition-fails at)
       unfolding formed
-      formed-no-says e = by-rule saysO ws (Refused condition-fails at) e (λ a b A B j. refuses _ condition-fails at end ws (fails at _ _ (not-prop (j .second-type))))
+      formed-no-says e = by-rule saysO ws (Refused condition-fails at) e (λ a b A B j. refuses _ condition-fails at end ws (fail _ at _ (not-prop (j .second-type))))
 
       module _ (no-says : eqb (getD proof at 0) (opWord saysO) ≡ false) (kind : Bool) (is-kind : (B : Term) → TypeAt ws 0 B → kind ≡ same B KindP) where
         -- only a Pi is left
@@ -195,4 +196,4 @@ module _ (proof ws : List ℕ) (used at next n m end : ℕ) where
 
         pub formed-no-pi : kind ≡ false → (o : Op) (a b A B : Term) → Forms proof ws used at next n m end o a b A B → Formed (formed o at a b A B) end ws ws (Refused condition-fails at)
         unfolding formed
-        formed-no-pi t = by-pi (Refused condition-fails at) (λ a b A B j. refuses _ condition-fails at end ws (fails at _ _ (body-is (j .second-type) ∙ t)))
+        formed-no-pi t = by-pi (Refused condition-fails at) (λ a b A B j. refuses _ condition-fails at end ws (fail _ at _ (body-is (j .second-type) ∙ t)))

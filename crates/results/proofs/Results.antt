@@ -13,15 +13,16 @@ use lib.Seq.{drop-drop, take-at, getD-drop}
 use lib.ListN.{length, take, drop, set, getD, take-append-drop, length-append, length-drop, length-set}
 use borrow.Author.Tests.{not-true, not-false, eq-eqb}
 use Rattle.logic.specs.Limits.{payloads, most-type-words}
-use Rattle.logic.specs.Refusals.{condition-fails, type-too-long}
-use Rattle.logic.specs.Result.{Result, refused, _>>_, pick}
+use Rattle.logic.specs.Refusals.{condition-fails, type-too-long, argument-mismatch, variable-escapes}
+use Rattle.logic.specs.Result.{Result, refused, _>>_, require, pick}
 use Rattle.logic.specs.Tags.{tag-name, tag-sign}
 use Rattle.logic.specs.Term.{Op, saysO, piO, lamO, appO, retO, bindO, Term, atom, var, sign, node, binds, under, P, KindP, KindT, Name, Says, word, payload-of, opWord, encode, size}
 use Rattle.logic.specs.Move.{shift, raise, lower, fillAt, fill, occurs}
 use Rattle.logic.specs.Reading.{branch, shape, Plain, PlainType}
-use Rattle.logic.specs.Infer.{same-term, same, condition, conclusion, proposition, measured}
+use Rattle.logic.specs.Infer.{same-term, same, conclusion, proposition, measured}
 use Rattle.logic.proofs.Basics.{clash}
 use Rattle.logic.proofs.Results.{pass}
+use Rattle.logic.proofs.Stopped.{fail}
 use Rattle.logic.proofs.Free.{lower-raise}
 use Rattle.logic.proofs.Proposition.{same-yes, same-no}
 use Rattle.logic.proofs.Words.{head, first, shape-first, InRange, plain-in-range, encode-size, prefix-free}
@@ -43,7 +44,7 @@ use Rattle.rules.specs.Scope.{entry-head}
 use Rattle.rules.specs.Form.{front-words, Formed}
 use Rattle.results.specs.Results.{Applies, Pairs, Binds, Signs}
 use Rattle.rules.specs.declared.derivation.Derivation.the-variants.{Typed, Refused}
-use Rattle.rules.proofs.Fronts.{denied, type-part, written-kept, written-there, fails, measured-fits, measured-long, refuses, writes}
+use Rattle.rules.proofs.Fronts.{denied, type-part, written-kept, written-there, measured-fits, measured-long, refuses, writes}
 
 -- ---- words and terms
 
@@ -59,10 +60,10 @@ module _ (proof ws : List ℕ) (at next n m end : ℕ) (d C e E : Term) (j : App
   function-size = let q : suc (size d + size C) ≡ 1 + size d + size C = omega arith in j .function-words ∙ q
 
   -- the argument's type is not the domain
-  unlike : (E ≡ d → ⊥) → Formed (applied at d C e E) end ws ws (Refused condition-fails at)
-  unlike q = refuses _ condition-fails at end ws (fails at _ _ (same-no q))
+  unlike : (E ≡ d → ⊥) → Formed (applied at d C e E) end ws ws (Refused argument-mismatch at)
+  unlike q = refuses _ argument-mismatch at end ws (fail _ at _ (same-no q))
 
-  pub apply-short : n ≤ 1 + m → Formed (applied at d C e E) end ws ws (Refused condition-fails at)
+  pub apply-short : n ≤ 1 + m → Formed (applied at d C e E) end ws ws (Refused argument-mismatch at)
   apply-short l = unlike λ q.
       let s : size E ≡ size d = ap size q in
       let f = function-size in
@@ -83,7 +84,7 @@ module _ (proof ws : List ℕ) (at next n m end : ℕ) (d C e E : Term) (j : App
       let i : n + m - n ≡ size E = omega arith in
       ap (λ (i : ℕ). take i (drop n ws)) i ∙ type-part (j .argument)
 
-  pub apply-differs : (r : Bool) → not r ≡ true → (take (1 + m - 1) (drop 1 ws) ≡ take (n + m - n) (drop n ws) → r ≡ true) → Formed (applied at d C e E) end ws ws (Refused condition-fails at)
+  pub apply-differs : (r : Bool) → not r ≡ true → (take (1 + m - 1) (drop 1 ws) ≡ take (n + m - n) (drop n ws) → r ≡ true) → Formed (applied at d C e E) end ws ws (Refused argument-mismatch at)
   apply-differs r t f = unlike λ q. denied r t (f (domain-part (ap size q) ∙ ap encode (sym q) ∙ sym type-words))
 
   module _ (agree : take (1 + m - 1) (drop 1 ws) ≡ take (n + m - n) (drop n ws)) where
@@ -99,7 +100,7 @@ module _ (proof ws : List ℕ) (at next n m end : ℕ) (d C e E : Term) (j : App
     argument-is = record { plain = j .here .plain; words = part-is end (j .here) (j .end-is) }
 
     filled-type : (o : Result Term) → measured at (fill C e) ≡ o → applied at d C e E ≡ o
-    filled-type o q = pass condition-fails at (same-yes domain-is) q
+    filled-type o q = pass argument-mismatch at (same-yes domain-is) q
 
     module _ (zeros filled : List ℕ) (r : Filled) (f : FilledTo C (fillAt 0 e C) (1 + m) zeros 0 filled r) where
       pub apply-over : length zeros ≡ most-type-words → r ≡ Over → Formed (applied at d C e E) end ws ws (Refused type-too-long at)
@@ -121,7 +122,7 @@ module _ (proof ws : List ℕ) (at next n m end : ℕ) (d C e E : Term) (j : App
 
 module _ (proof ws : List ℕ) (at n end a : ℕ) (q s : Term) (j : Signs proof ws at n end a q s) (r : Bool) (f : r ≡ same s P) where
   pub sign-unlike : not r ≡ true → Formed (sign-type at a q s) end ws ws (Refused condition-fails at)
-  sign-unlike t = refuses _ condition-fails at end ws (fails at _ _ (sym f ∙ not-true r t))
+  sign-unlike t = refuses _ condition-fails at end ws (fail _ at _ (sym f ∙ not-true r t))
 
   module _ (t : not r ≡ false) where
     signed-type : (o : Result Term) → measured at (Says (Name a) q) ≡ o → sign-type at a q s ≡ o
@@ -162,7 +163,7 @@ proposition-plain A (inr (inr q)) e = let k : proposition KindT ≡ true = ap pr
 
 module _ (proof ws : List ℕ) (at next m end : ℕ) (o : Op) (a B : Term) (j : Pairs proof ws at next m a B) (r : Bool) (f : r ≡ proposition B) where
   pub pair-unlike : not r ≡ true → Formed (paired at o a B) end ws ws (Refused condition-fails at)
-  pair-unlike t = refuses _ condition-fails at end ws (fails at _ _ (sym f ∙ not-true r t))
+  pair-unlike t = refuses _ condition-fails at end ws (fail _ at _ (sym f ∙ not-true r t))
 
   module _ (t : not r ≡ false) where
     pair-type : (p : Result Term) → measured at (node o a B) ≡ p → paired at o a B ≡ p
@@ -264,14 +265,14 @@ bound-unsaid : (at : ℕ) (p B : Term) → (Said p B → ⊥) → bound at p B �
 bound-unsaid at p (atom a) n = refl
 bound-unsaid at p (var k) n = refl
 bound-unsaid at p (sign k q) n = refl
-bound-unsaid at p (node saysO x y) n = fails at _ _ (same-no (λ q. n (record { right = y; is = ap (λ (t : Term). Says t y) q })))
+bound-unsaid at p (node saysO x y) n = fail _ at _ (same-no (λ q. n (record { right = y; is = ap (λ (t : Term). Says t y) q })))
 bound-unsaid at p (node piO x y) n = refl
 bound-unsaid at p (node lamO x y) n = refl
 bound-unsaid at p (node appO x y) n = refl
 bound-unsaid at p (node retO x y) n = refl
 bound-unsaid at p (node bindO x y) n = refl
 
-bound-said : (at : ℕ) (p B : Term) (s : Said p B) (o : Result Term) → (condition at (eqb (occurs 0 (s .right)) 0) >> measured at (Says p (lower (s .right)))) ≡ o → bound at p B ≡ o
+bound-said : (at : ℕ) (p B : Term) (s : Said p B) (o : Result Term) → (require (eqb (occurs 0 (s .right)) 0) variable-escapes at >> measured at (Says p (lower (s .right)))) ≡ o → bound at p B ≡ o
 bound-said at p B s o e = ap (bound at p) (s .is) ∙ pass condition-fails at (same-yes refl) e
 
 module _ (ws : List ℕ) (used at m end : ℕ) (p q B : Term) (j : Binds ws used m p q B) where
@@ -334,8 +335,8 @@ module _ (ws : List ℕ) (used at m end : ℕ) (p q B : Term) (j : Binds ws used
           subst (λ (k : ℕ). At ws k (saying .right)) i (at-right (subst (At ws 0) (saying .is) said-at))
 
       module _ (r : Option ℕ) (f : r ≡ absent (said + size (saying .right)) (occurs 0 (saying .right))) where
-        pub bind-present : r ≡ none → Formed (bound at p B) end ws ws (Refused condition-fails at)
-        bind-present t = refuses _ condition-fails at end ws (bound-said at p B saying _ (fails at _ _ (present-is (occurs 0 (saying .right)) _ (sym t ∙ f))))
+        pub bind-present : r ≡ none → Formed (bound at p B) end ws ws (Refused variable-escapes at)
+        bind-present t = refuses _ variable-escapes at end ws (bound-said at p B saying _ (fail _ at _ (present-is (occurs 0 (saying .right)) _ (sym t ∙ f))))
 
         pub bind-absent : (k : ℕ) (new : List ℕ) (words : ℕ) → r ≡ some k → m ≤ most-type-words → Shifted B 0 (negsuc 0) ws 0 new words → Formed (bound at p B) end ws new (Typed words end)
         unfolding shift
@@ -345,6 +346,6 @@ module _ (ws : List ℕ) (used at m end : ℕ) (p q B : Term) (j : Binds ws used
             let n = j .type-words in
             let small : size (Says p (lower (saying .right))) ≤ most-type-words = omega arith in
             writes _ (Says p (lower (saying .right))) words end ws ws new
-            (bound-said at p B saying _ (pass condition-fails at (eq-eqb (occurs 0 (saying .right)) 0 (absent-is (occurs 0 (saying .right)) _ k (sym t ∙ f) .never)) (measured-fits at _ small)))
+            (bound-said at p B saying _ (pass variable-escapes at (eq-eqb (occurs 0 (saying .right)) 0 (absent-is (occurs 0 (saying .right)) _ k (sym t ∙ f) .never)) (measured-fits at _ small)))
             (h .count ∙ sym z) small (inl (subst Plain low (plain-lower 0 B (said-at .plain)))) refl
             (h .words ∙ ap (λ (u : Term). written ws 0 (encode u)) low)

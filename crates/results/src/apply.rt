@@ -1,6 +1,6 @@
 // The result of an App.
 use logic::limit::MOST_TYPE_WORDS;
-use logic::refusal::CONDITION_FAILS;
+use logic::refusal::ARGUMENT_MISMATCH;
 use logic::refusal::TYPE_TOO_LONG;
 use moves::fill::Filled;
 use moves::fill::fill_into;
@@ -30,7 +30,7 @@ pub fn apply(
     let body = 1 + m;
     if n <= body {
         return Derivation::Refused {
-            number: CONDITION_FAILS,
+            number: ARGUMENT_MISMATCH,
             place: at,
         };
     }
@@ -38,7 +38,7 @@ pub fn apply(
     let agree = same(&held[1..body], &held[n..n + m]);
     if !agree {
         return Derivation::Refused {
-            number: CONDITION_FAILS,
+            number: ARGUMENT_MISMATCH,
             place: at,
         };
     }

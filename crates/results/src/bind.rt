@@ -1,5 +1,6 @@
 // The result of a Bind.
 use logic::refusal::CONDITION_FAILS;
+use logic::refusal::VARIABLE_ESCAPES;
 use moves::occurrence::Occurrence;
 use moves::occurrence::occurs;
 use moves::shift::shift_within;
@@ -40,7 +41,7 @@ pub fn bind(ws: &mut [u32], used: usize, at: usize, m: usize, end: usize) -> Der
     let escape = occurs(&ws[..], said, 0);
     match escape {
         Occurrence::Present => Derivation::Refused {
-            number: CONDITION_FAILS,
+            number: VARIABLE_ESCAPES,
             place: at,
         },
         Occurrence::Absent(_) => {

@@ -10,7 +10,7 @@ use lib.Dec.{eqb}
 use lib.ListN.{length, take, drop, getD, length-append}
 use lib.IntN.{pos}
 use Rattle.logic.specs.Limits.{most-type-words}
-use Rattle.logic.specs.Refusals.{condition-fails}
+use Rattle.logic.specs.Refusals.{condition-fails, not-a-function}
 use Rattle.logic.specs.Result.{Result, ok, refused, _>>_, known}
 use Rattle.logic.specs.Tags.{tag-app, tag-bind, tag-kindP, tag-kindT}
 use Rattle.logic.specs.Term.{propA, typeA, kindPA, Op, saysO, piO, lamO, appO, retO, bindO, Op-discrete, Term, atom, var, sign, node, N, Says, word, tag-of, atomWord, opWord, encode, size}
@@ -167,11 +167,11 @@ record Rule (o : Op) (at : ℕ) (a A : Term) (n : ℕ) (test : Result (Unit {0})
   keeps : entry o at a A ≡ xs
   front : keep-of o n ≡ keep
 
--- the test of App and of Bind: the first child's type is a node of the kind h
-abbrev node-test : Op → ℕ → Term → Result (Unit {0})
-node-test h at A = known condition-fails at (parts h A) >> ok tt
+-- the test of App and of Bind: the first child's type is a node of the kind h, or the refusal has the number m
+abbrev node-test : (m : ℕ) → Op → ℕ → Term → Result (Unit {0})
+node-test m h at A = known m at (parts h A) >> ok tt
 
-app-rule : (o : Op) (at : ℕ) (a A : Term) (n w : ℕ) → w ≡ opWord o → tag-of w ≡ tag-app → Rule o at a A n (node-test piO at A) [] n
+app-rule : (o : Op) (at : ℕ) (a A : Term) (n w : ℕ) → w ≡ opWord o → tag-of w ≡ tag-app → Rule o at a A n (node-test not-a-function piO at A) [] n
 unfolding ready
 app-rule saysO at a A n w e t = absurd (omega arith)
 app-rule piO at a A n w e t = absurd (omega arith)
@@ -180,7 +180,7 @@ app-rule appO at a A n w e t = record { tests = refl; keeps = refl; front = refl
 app-rule retO at a A n w e t = absurd (omega arith)
 app-rule bindO at a A n w e t = absurd (omega arith)
 
-bind-rule : (o : Op) (at : ℕ) (a A : Term) (n w : ℕ) → w ≡ opWord o → tag-of w ≡ tag-bind → Rule o at a A n (node-test saysO at A) (entry bindO at a A) 0
+bind-rule : (o : Op) (at : ℕ) (a A : Term) (n w : ℕ) → w ≡ opWord o → tag-of w ≡ tag-bind → Rule o at a A n (node-test condition-fails saysO at A) (entry bindO at a A) 0
 unfolding ready
 bind-rule saysO at a A n w e t = absurd (omega arith)
 bind-rule piO at a A n w e t = absurd (omega arith)
@@ -225,7 +225,7 @@ module _ {o : Op} {at : ℕ} {a A : Term} {n : ℕ} {test : Result (Unit {0})} {
         );
       }
 
-  fails : (used : ℕ) (old : List ℕ) → test ≡ refused condition-fails at → Entering o at a A n used old old Fails
+  fails : {m : ℕ} (used : ℕ) (old : List ℕ) → test ≡ refused m at → Entering o at a A n used old old (Fails m)
   fails used old e = let t = rule .tests ∙ e in record { answer = sym (stop-then _ t); kept = subst (λ (u : Result (Unit {0})). Entry-kept u o at a A used old old) (sym t) refl }
 
 -- ---- the answers
@@ -238,17 +238,17 @@ module _ {proof ws : List ℕ} {at next n : ℕ} {o : Op} {a A : Term} (used : �
   passes-none : {test : Result (Unit {0})} {keep : ℕ} → Rule o at a A n test [] keep → test ≡ ok tt → Entering o at a A n used ws ws (Fits keep used)
   passes-none rule e = let w : n ≡ size A = j .type-words in passes rule used ws ws used e (kept-none ws used) (omega arith) (j .type)
 
-  node-passes : (h : Op) → getD ws 0 0 ≡ opWord h → node-test h at A ≡ ok tt
-  node-passes h e = let i = node-of h A (j .type .plain) (sym front-first ∙ e) in ap (λ (B : Term). node-test h at B) (i .is) ∙ ap (λ (x : Option Parts). known condition-fails at x >> ok tt) (parts-some h (i .left) (i .right))
+  node-passes : (m : ℕ) (h : Op) → getD ws 0 0 ≡ opWord h → node-test m h at A ≡ ok tt
+  node-passes m h e = let i = node-of h A (j .type .plain) (sym front-first ∙ e) in ap (λ (B : Term). node-test m h at B) (i .is) ∙ ap (λ (x : Option Parts). known m at x >> ok tt) (parts-some h (i .left) (i .right))
 
-  node-fails : (h : Op) → (getD ws 0 0 ≡ opWord h → ⊥) → node-test h at A ≡ refused condition-fails at
-  node-fails h q = ap (λ (x : Option Parts). known condition-fails at x >> ok tt) (parts-none h A λ e. q (front-first ∙ e))
+  node-fails : (m : ℕ) (h : Op) → (getD ws 0 0 ≡ opWord h → ⊥) → node-test m h at A ≡ refused m at
+  node-fails m h q = ap (λ (x : Option Parts). known m at x >> ok tt) (parts-none h A λ e. q (front-first ∙ e))
 
   pub app-passes : tag-of (getD proof at 0) ≡ tag-app → getD ws 0 0 ≡ opWord piO → Entering o at a A n used ws ws (Fits n used)
-  app-passes t e = passes-none (app-rule o at a A n _ (j .head) t) (node-passes piO e)
+  app-passes t e = passes-none (app-rule o at a A n _ (j .head) t) (node-passes _ piO e)
 
-  pub app-fails : tag-of (getD proof at 0) ≡ tag-app → (getD ws 0 0 ≡ opWord piO → ⊥) → Entering o at a A n used ws ws Fails
-  app-fails t q = fails (app-rule o at a A n _ (j .head) t) used ws (node-fails piO q)
+  pub app-fails : tag-of (getD proof at 0) ≡ tag-app → (getD ws 0 0 ≡ opWord piO → ⊥) → Entering o at a A n used ws ws (Fails not-a-function)
+  app-fails t q = fails (app-rule o at a A n _ (j .head) t) used ws (node-fails _ piO q)
 
   -- what `keep_says` asks
   pub bind-keeps : getD ws 0 0 ≡ opWord saysO → Keepable ws used n
@@ -264,10 +264,10 @@ module _ {proof ws : List ℕ} {at next n : ℕ} {o : Op} {a A : Term} (used : �
       let w : n ≡ size A = j .type-words in
       let k : Kept (entry bindO at a A) used ws new r = subst (λ (B : Term). Kept (entry bindO at a B) used ws new r) (sym (i .is)) (f at a p q (subst (TypeAt ws 0) (i .is) (j .type)) (w ∙ ap size (i .is))) in
       let l : length (entry bindO at a A) ≡ entry-head + size A = ap (λ (B : Term). length (entry bindO at a B)) (i .is) ∙ bind-length at a p q ∙ ap (λ (B : Term). entry-head + size B) (sym (i .is)) in
-      passes (bind-rule o at a A n _ (j .head) t) used ws new r (node-passes saysO e) k (omega arith) (j .type)
+      passes (bind-rule o at a A n _ (j .head) t) used ws new r (node-passes _ saysO e) k (omega arith) (j .type)
 
-  pub bind-fails : tag-of (getD proof at 0) ≡ tag-bind → (getD ws 0 0 ≡ opWord saysO → ⊥) → Entering o at a A n used ws ws Fails
-  bind-fails t q = fails (bind-rule o at a A n _ (j .head) t) used ws (node-fails saysO q)
+  pub bind-fails : tag-of (getD proof at 0) ≡ tag-bind → (getD ws 0 0 ≡ opWord saysO → ⊥) → Entering o at a A n used ws ws (Fails condition-fails)
+  bind-fails t q = fails (bind-rule o at a A n _ (j .head) t) used ws (node-fails _ saysO q)
 
   -- what `kind` answers
   op-kind : (k : ℕ) → k ≡ kindOf (shape (getD proof at 0)) → opKind o ≡ k
@@ -291,11 +291,11 @@ module _ {proof ws : List ℕ} {at next n : ℕ} {o : Op} {a A : Term} (used : �
       (omega arith)
       (j .type)
 
-  pub binder-fails : {k : ℕ} {b : Bool} → (tag-of (getD proof at 0) ≡ tag-bind → ⊥) → k ≡ kindOf (shape (getD proof at 0)) → k ≡ kind-binder → b ≡ false → Answers b → Entering o at a A n used ws ws Fails
+  pub binder-fails : {k : ℕ} {b : Bool} → (tag-of (getD proof at 0) ≡ tag-bind → ⊥) → k ≡ kindOf (shape (getD proof at 0)) → k ≡ kind-binder → b ≡ false → Answers b → Entering o at a A n used ws ws (Fails condition-fails)
   binder-fails {k} {b} t e i d f = fails (binder-rule o at a A n _ (j .head) t (op-kind k e ∙ i)) used ws (ap (condition at) (sym (domain-is b f) ∙ d))
 
   pub plain-passes : {k : ℕ} {b : Bool} → (tag-of (getD proof at 0) ≡ tag-app → ⊥) → k ≡ kindOf (shape (getD proof at 0)) → (k ≡ kind-binder → ⊥) → b ≡ true → b ≡ same A N → Entering o at a A n used ws ws (Fits 0 used)
   plain-passes {k} t e q d f = passes-none (plain-rule o at a A n _ (j .head) t (λ i. q (sym (op-kind k e) ∙ i))) (ap (condition at) (sym f ∙ d))
 
-  pub plain-fails : {k : ℕ} {b : Bool} → (tag-of (getD proof at 0) ≡ tag-app → ⊥) → k ≡ kindOf (shape (getD proof at 0)) → (k ≡ kind-binder → ⊥) → b ≡ false → b ≡ same A N → Entering o at a A n used ws ws Fails
+  pub plain-fails : {k : ℕ} {b : Bool} → (tag-of (getD proof at 0) ≡ tag-app → ⊥) → k ≡ kindOf (shape (getD proof at 0)) → (k ≡ kind-binder → ⊥) → b ≡ false → b ≡ same A N → Entering o at a A n used ws ws (Fails condition-fails)
   plain-fails {k} t e q d f = fails (plain-rule o at a A n _ (j .head) t (λ i. q (sym (op-kind k e) ∙ i))) used ws (ap (condition at) (sym f ∙ d))

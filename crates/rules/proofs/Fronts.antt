@@ -9,11 +9,11 @@ use lib.ListN.{length, take, drop, getD}
 use lib.Seq.{drop-drop, take-at, drop-at, length-take-le}
 use borrow.Author.Tests.{not-true, eqb-true, eq-eqb, le-leb, lt-leb}
 use Rattle.logic.specs.Limits.{most-type-words}
-use Rattle.logic.specs.Refusals.{condition-fails, type-too-long}
-use Rattle.logic.specs.Result.{Result, ok, refused, _>>_}
+use Rattle.logic.specs.Refusals.{type-too-long}
+use Rattle.logic.specs.Result.{Result, ok, refused}
 use Rattle.logic.specs.Term.{Atom, Term, atom, atomWord, encode, size}
 use Rattle.logic.specs.Reading.{PlainType}
-use Rattle.logic.specs.Infer.{same, condition, measured}
+use Rattle.logic.specs.Infer.{same, measured}
 use Rattle.logic.proofs.Basics.{clash}
 use Rattle.logic.proofs.Proposition.{same-true, same-yes}
 use Rattle.logic.proofs.Results.{ok-inj, bound}
@@ -67,9 +67,6 @@ written-there old new xs to n l e q =
     ∙ take-at xs r n (sym q)
 
 -- ---- what a rule answers
-
-pub fails : (at : ℕ) (b : Bool) (s : Result Term) → b ≡ false → (condition at b >> s) ≡ refused condition-fails at
-fails at b s e = ap (λ (b : Bool). condition at b >> s) e
 
 pub measured-fits : (at : ℕ) (A : Term) → size A ≤ most-type-words → measured at A ≡ ok A
 measured-fits at A l = simp (le-leb (size A) most-type-words l)

@@ -4,7 +4,6 @@ use mathlib.Core.Path.{_≡_}
 use mathlib.Core.List.{List, _++_}
 use lib.ListN.{length, getD}
 use Rattle.logic.specs.Limits.{most-words, most-type-words}
-use Rattle.logic.specs.Refusals.{condition-fails}
 use Rattle.logic.specs.Result.{Result, ok, refused, _>>_}
 use Rattle.logic.specs.Term.{Op, saysO, piO, lamO, appO, retO, bindO, Term, Says, opWord, size}
 use Rattle.words.specs.Place.{At, written}
@@ -58,7 +57,7 @@ keep-of bindO n = 0
 -- number and values of each case, of a node at the place `at`: the words kept at the front and at the end
 abbrev pub entered-answer : (at : ℕ) → Entered → Result (ℕ × ℕ)
 entered-answer at (Fits keep used) = ok (keep, used)
-entered-answer at Fails = refused condition-fails at
+entered-answer at (Fails number) = refused number at
 
 -- the test passed: the entry of the binder, if any, is kept at the end, before what was; or it failed, and nothing was written
 abbrev pub Entry-kept : Result (Unit {0}) → Op → ℕ → (a A : Term) → (used : ℕ) → (old new : List ℕ) → Type 0

@@ -3,8 +3,8 @@ use Prim.Native.Nat.{ℕ, suc}
 use mathlib.Core.List.{List, _∷_}
 use lib.Dec.{eqb}
 use lib.ListN.{getElem?}
-use Rattle.logic.specs.Refusals.{unbound-variable, condition-fails}
-use Rattle.logic.specs.Result.{Result, ok, _>>=_, _>>_, known}
+use Rattle.logic.specs.Refusals.{unbound-variable, condition-fails, not-a-function, argument-mismatch, variable-escapes}
+use Rattle.logic.specs.Result.{Result, ok, _>>=_, _>>_, require, known}
 use Rattle.logic.specs.Term.{Atom, Op, saysO, piO, lamO, appO, retO, bindO, Term, atom, var, sign, node, P, N, Name, Says}
 use Rattle.logic.specs.Move.{raise, lower, fill, occurs}
 use Rattle.logic.specs.Infer.{same, condition, measured, domain, body, proposition, parts, infer-atom}
@@ -39,7 +39,7 @@ unfoldable pub ready : Op → ℕ → Term → Result (Unit {0})
 ready saysO at A = condition at (same A N)
 ready piO at A = condition at (domain A)
 ready lamO at A = condition at (domain A)
-ready appO at A = known condition-fails at (parts piO A) >> ok tt
+ready appO at A = known not-a-function at (parts piO A) >> ok tt
 ready retO at A = condition at (same A N)
 ready bindO at A = known condition-fails at (parts saysO A) >> ok tt
 
@@ -58,11 +58,11 @@ paired at o a B = condition at (proposition B) >> measured at (node o a B)
 
 -- the result of an App, whose function has the type Pi d C and whose argument b the type B
 abbrev pub applied : ℕ → Term → Term → Term → Term → Result Term
-applied at d C b B = condition at (same B d) >> measured at (fill C b)
+applied at d C b B = require (same B d) argument-mismatch at >> measured at (fill C b)
 
 -- the result of a Bind, whose proof is said by a and whose body has the type B
 abbrev pub bound : ℕ → Term → Term → Result Term
-bound at a B = known condition-fails at (parts saysO B) >>= λ r. condition at (same (r .left) (raise 1 a)) >> (condition at (eqb (occurs 0 (r .right)) 0) >> measured at (Says a (lower (r .right))))
+bound at a B = known condition-fails at (parts saysO B) >>= λ r. condition at (same (r .left) (raise 1 a)) >> (require (eqb (occurs 0 (r .right)) 0) variable-escapes at >> measured at (Says a (lower (r .right))))
 
 -- the node's type, from its children and their types
 unfoldable pub formed : Op → ℕ → (a b A B : Term) → Result Term

@@ -1,6 +1,8 @@
 // Between the children of a node: the test on the first child's type, and what is kept for the second.
 use crate::front::front_is;
 use crate::scope::ENTRY_HEAD;
+use logic::refusal::CONDITION_FAILS;
+use logic::refusal::NOT_A_FUNCTION;
 use logic::word::BINDER;
 use logic::word::KIND_P;
 use logic::word::PAYLOADS;
@@ -29,10 +31,10 @@ ghost use Rattle.words.specs.Typed.{TypeAt};
 ghost use Rattle.rules.specs.Scope.{entry-head, entry};
 ghost use Rattle.rules.specs.Enter.{Enters, Enterable, Entering, Kept, Keepable};
 
-// How many words at the front and at the end of the workspace are kept while the second child is derived; or the test fails.
+// How many words at the front and at the end of the workspace are kept while the second child is derived; or the number with which the test fails.
 pub enum Entered {
     Fits { keep: usize, used: usize },
-    Fails,
+    Fails { number: u32 },
 }
 
 // Whether a type that begins with this word is one that a domain may have: T, P or KindP, which have no other word.
@@ -102,7 +104,9 @@ pub fn enter(
         if ws[0] == TAG_PI * PAYLOADS {
             return Entered::Fits { keep: n, used };
         }
-        return Entered::Fails;
+        return Entered::Fails {
+            number: NOT_A_FUNCTION,
+        };
     }
     if tag == TAG_BIND {
         if ws[0] == TAG_SAYS * PAYLOADS {
@@ -112,7 +116,9 @@ pub fn enter(
                 used: kept,
             };
         }
-        return Entered::Fails;
+        return Entered::Fails {
+            number: CONDITION_FAILS,
+        };
     }
     if kind(word) == BINDER {
         let fine = domain(ws[0]);
@@ -123,12 +129,16 @@ pub fn enter(
                 used: kept,
             };
         }
-        return Entered::Fails;
+        return Entered::Fails {
+            number: CONDITION_FAILS,
+        };
     }
     // a Says or a Ret
     let fine = front_is(&ws[..], TAG_PRIN * PAYLOADS);
     if fine {
         return Entered::Fits { keep: 0, used };
     }
-    Entered::Fails
+    Entered::Fails {
+        number: CONDITION_FAILS,
+    }
 }

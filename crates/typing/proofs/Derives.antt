@@ -9,7 +9,7 @@ use lib.ListN.{length, take, drop, getD, getElem?, length-append}
 use lib.Seq.{take-at, drop-at, drop-drop, take-append-add, length-take-le}
 use lib.IntN.{pos}
 use Rattle.logic.specs.Limits.{most-words, most-type-words}
-use Rattle.logic.specs.Refusals.{unbound-variable, condition-fails}
+use Rattle.logic.specs.Refusals.{unbound-variable}
 use Rattle.logic.specs.Result.{Result, ok, refused, _>>=_, _>>_, known}
 use Rattle.logic.specs.Kind.{kind-atom, kind-variable, kind-sign}
 use Rattle.logic.specs.Term.{Atom, Op, saysO, piO, lamO, appO, retO, bindO, Term, atom, var, sign, node, P, Says, Pi, payload-of, atomWord, opWord, encode, size}
@@ -151,32 +151,32 @@ inside o at a A n used mid mid2 r keep kept e q = followed (ready o at A) _ (sym
     let w = subst (λ (x : Result (Unit {0})). Entry-kept x o at a A used mid mid2) i (e .kept) in
     record { passed = i; keep-is = sym (ap (λ (x : ℕ × ℕ). x .0) v); kept-is = k; entered = ap (λ (i : ℕ). tail i mid2) k ∙ w .0; front = w .1 }
 
--- a test that fails is refused at the node
-record Failed (mid mid2 : List ℕ) (o : Op) (at : ℕ) (A : Term) : Type 0 where
-  fails : ready o at A ≡ refused condition-fails at
+-- a test that fails is refused at the node, with its number
+record Failed (mid mid2 : List ℕ) (o : Op) (at : ℕ) (A : Term) (m : ℕ) : Type 0 where
+  fails : ready o at A ≡ refused m at
   unchanged : mid2 ≡ mid
 
-failed : (o : Op) (at : ℕ) (a A : Term) (n used : ℕ) (mid mid2 : List ℕ) (r : Entered) → Entering o at a A n used mid mid2 r → r ≡ Fails → Failed mid mid2 o at A
-failed o at a A n used mid mid2 r e q = stopped-then (ready o at A) _ (sym (e .answer) ∙ ap (entered-answer at) q)
+failed : (o : Op) (at : ℕ) (a A : Term) (n used : ℕ) (mid mid2 : List ℕ) (r : Entered) (m : ℕ) → Entering o at a A n used mid mid2 r → r ≡ Fails m → Failed mid mid2 o at A m
+failed o at a A n used mid mid2 r m e q = stopped-then (ready o at A) _ (sym (e .answer) ∙ ap (entered-answer at) q)
     (λ i. record { fails = i; unchanged = subst (λ (x : Result (Unit {0})). Entry-kept x o at a A used mid mid2) i (e .kept) })
     λ u i j. absurd (not-refused j)
 
 -- what the test says of the first child's type
 
-known-some : {o : Op} (A : Term) (at : ℕ) → (known condition-fails at (parts o A) >> ok (tt {0})) ≡ ok tt → A ≡ node o (first A) (second A)
-known-some {o} A at e = go (parts o A) refl e
+known-some : {o : Op} (A : Term) (m at : ℕ) → (known m at (parts o A) >> ok (tt {0})) ≡ ok tt → A ≡ node o (first A) (second A)
+known-some {o} A m at e = go (parts o A) refl e
   where
-    go : (x : Option Parts) → parts o A ≡ x → (known condition-fails at x >> ok (tt {0})) ≡ ok tt → A ≡ node o (first A) (second A)
+    go : (x : Option Parts) → parts o A ≡ x → (known m at x >> ok (tt {0})) ≡ ok tt → A ≡ node o (first A) (second A)
     go none e q = absurd (not-ok q)
     go (some p) e q = let h = parts-some o A e in h ∙ ap₂ (node o) (sym (ap first h)) (sym (ap second h))
 
 pub ready-pi : (at : ℕ) (A : Term) → ready appO at A ≡ ok tt → A ≡ Pi (first A) (second A)
 unfolding ready
-ready-pi at A e = known-some A at e
+ready-pi at A e = known-some A _ at e
 
 pub ready-says : (at : ℕ) (A : Term) → ready bindO at A ≡ ok tt → A ≡ Says (first A) (second A)
 unfolding ready
-ready-says at A e = known-some A at e
+ready-says at A e = known-some A _ at e
 
 -- the words of an entry
 pub entry-short : (o : Op) (at : ℕ) (a A : Term) → size A ≤ most-type-words → ready o at A ≡ ok tt → length (entry o at a A) ≤ level-words
@@ -531,10 +531,10 @@ first-refusal {ws} {used} {at} {Σ} {Γ} {o} {a} {b} new r m p R d q =
     refused-derived _ _ used ws new r m p (first-refused Σ Γ at o a b m p (refused-is _ _ used ws new r m p D q)) q (D .kept)
 
 pub test-refusal : {sig table proof ws : List ℕ} {floor used at left : ℕ} {Σ Γ : List Term} {o : Op} {a b : Term} (mid mid2 : List ℕ) (next n : ℕ) → Ready sig table proof ws floor used at left Σ Γ (node o a b)
-    → (B : Between proof ws mid used at next n Σ Γ o a) → (e : Entered) → Entering o at a (B .type) n used mid mid2 e → e ≡ Fails → Derived (infer Σ Γ at (node o a b)) (at + size (node o a b)) used ws mid2 (Refused condition-fails at)
-test-refusal {ws} {used} {at} {Σ} {Γ} {o} {a} {b} mid mid2 next n R B e E q =
-    let F = failed o at a (B .type) n used mid mid2 e E q in
-    refused-derived _ _ used ws mid2 _ condition-fails at (test-refused Σ Γ at o a b (B .type) (B .is) condition-fails at (F .fails)) refl (ap (tail used) (F .unchanged) ∙ B .kept)
+    → (B : Between proof ws mid used at next n Σ Γ o a) → (e : Entered) (m : ℕ) → Entering o at a (B .type) n used mid mid2 e → e ≡ Fails m → Derived (infer Σ Γ at (node o a b)) (at + size (node o a b)) used ws mid2 (Refused m at)
+test-refusal {ws} {used} {at} {Σ} {Γ} {o} {a} {b} mid mid2 next n R B e m E q =
+    let F = failed o at a (B .type) n used mid mid2 e m E q in
+    refused-derived _ _ used ws mid2 _ m at (test-refused Σ Γ at o a b (B .type) (B .is) m at (F .fails)) refl (ap (tail used) (F .unchanged) ∙ B .kept)
 
 -- ---- a node, by the number of its word's kind
 

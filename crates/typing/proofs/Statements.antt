@@ -13,14 +13,14 @@ use Rattle.logic.specs.Infer.{infer, same, condition, measured}
 use Rattle.logic.specs.Check.{term-of, check-statement}
 use Rattle.logic.proofs.Basics.{clash}
 use Rattle.logic.proofs.Results.{pass, then-is}
-use Rattle.logic.proofs.Stopped.{stop-then}
+use Rattle.logic.proofs.Stopped.{stop-then, fail}
 use Rattle.logic.proofs.Words.{encode-size}
 use Rattle.logic.proofs.Check.{term-of-right}
 use Rattle.words.specs.Typed.{TypeAt}
 use Rattle.rules.specs.Form.{Front}
 use Rattle.rules.specs.declared.derivation.Derivation.{Derivation}
 use Rattle.rules.specs.declared.derivation.Derivation.the-variants.{Typed, Refused}
-use Rattle.rules.proofs.Fronts.{fails, measured-fits, measured-long, typed-by, refused-by}
+use Rattle.rules.proofs.Fronts.{measured-fits, measured-long, typed-by, refused-by}
 use Rattle.typing.specs.Check.{typed-term, Judged, without-value}
 
 module _ (Σ : List Term) (a : ℕ) where
@@ -64,7 +64,7 @@ module _ (Σ : List Term) (a : ℕ) where
 
   module _ (ws new : List ℕ) (words : ℕ) (S : Typed-as ws new words) where
     pub no-proposition : false ≡ same (S .A) P → refused condition-fails 0 ≡ without-value (check-statement Σ a ws)
-    no-proposition e = sym (stop-then _ (S .is ∙ fails 0 (same (S .A) P) _ (sym e)))
+    no-proposition e = sym (stop-then _ (S .is ∙ fail _ 0 _ (sym e)))
 
     module _ (e : true ≡ same (S .A) P) where
       pub long-statement : most-type-words < length ws + 2 → refused type-too-long 0 ≡ without-value (check-statement Σ a ws)

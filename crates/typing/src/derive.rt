@@ -1,5 +1,4 @@
 // The derivation of a term's type.
-use logic::refusal::CONDITION_FAILS;
 use logic::word::ATOM;
 use logic::word::SIGN;
 use logic::word::VARIABLE;
@@ -65,25 +64,24 @@ pub fn derive(
         return first;
     };
     let entered = enter(proof, ws, used, at, next, n);
-    let Entered::Fits { keep, used: kept } = entered else {
-        return Derivation::Refused {
-            number: CONDITION_FAILS,
-            place: at,
-        };
-    };
-    // "Each nested rule works in what is left of the workspace"
-    let second = derive(
-        sig,
-        table,
-        proof,
-        &mut ws[keep..],
-        floor,
-        kept,
-        next,
-        left - 1,
-    );
-    let Derivation::Typed { words: m, end } = second else {
-        return second;
-    };
-    formed(proof, ws, kept, at, next, n, m, end)
+    match entered {
+        Entered::Fits { keep, used: kept } => {
+            // "Each nested rule works in what is left of the workspace"
+            let second = derive(
+                sig,
+                table,
+                proof,
+                &mut ws[keep..],
+                floor,
+                kept,
+                next,
+                left - 1,
+            );
+            let Derivation::Typed { words: m, end } = second else {
+                return second;
+            };
+            formed(proof, ws, kept, at, next, n, m, end)
+        }
+        Entered::Fails { number } => Derivation::Refused { number, place: at },
+    }
 }

@@ -8,7 +8,6 @@ use mathlib.Core.List.{List, []}
 use lib.ListN.{length}
 use borrow.Fn.Kinds.{In}
 use borrow.Fn.PlainCycle.{Measures, is, falls, and}
-use Rattle.logic.specs.Refusals.{condition-fails}
 use Rattle.logic.specs.Term.{Op, Term, node, size}
 use Rattle.logic.specs.Infer.{infer}
 use Rattle.logic.proofs.Searches.{depth-pos}
@@ -265,17 +264,6 @@ enter-requires t c κs =
 enum-known-entered : (t : ℕ) → lts.Need-enum-known-entered (calls t) (given t) derive.Post
 enum-known-entered t c = search needs
 
-enum-told-3 : (t : ℕ) → lts.Need-enum-told-3 (calls t) (given t) derive.Post
-enum-told-3 t c = search needs
-
-same-length-6 : (t : ℕ) → lts.Need-same-length-6 (calls t) (given t) derive.Post
-same-length-6 t c = c .before .before .before .before .enter .kept .1 .0 ∙ first-length t (c .before .before .before .before .before .before .before .before .before)
-
-returns-6 : (t : ℕ) → lts.Need-returns-6 (calls t) (given t) derive.Post
-returns-6 t c =
-    λ Σ Γ u R. as-node t (c .before .before .before .before .before .before .before .before .before .before .before .before) Σ Γ u (Gives t (c .before .before .before .before .before .before .before .before .before .before .before .before .before .before .before .before .before .before .before .before .before) Σ Γ (c .before .before .before .before .enter .last .1 .0) (Refused condition-fails (c .before .before .before .before .before .before .before .before .before .before .before .before .before .before .before .before .before .before .before .before .before .args .at))) R (λ o a b R. let B = first-typed t (c .before .before .before .before .before .before .before) R in
-    test-refusal _ _ _ _ R B (c .before .before .before .before .enter .result) (c .before .before .before .before .enter .ensures o a (B .type) (B .enters)) (c .enum-told3 .given .1))
-
 mul-derive : (t : ℕ) → lts.Need-mul-derive (calls t) (given t) derive.Post
 mul-derive t c =
     let s = c .before .before .before .before .before .before .before .before .before .before .before .before .before .before .before .before .before .before .before .before .before .before in
@@ -312,16 +300,16 @@ derive-requires-3 t c κs =
 enum-known-second : (t : ℕ) → lts.Need-enum-known-second (calls t) (given t) derive.Post
 enum-known-second t c = search needs
 
-enum-told-4 : (t : ℕ) → lts.Need-enum-told-4 (calls t) (given t) derive.Post
-enum-told-4 t c = search needs
+enum-told-3 : (t : ℕ) → lts.Need-enum-told-3 (calls t) (given t) derive.Post
+enum-told-3 t c = search needs
 
-same-length-7 : (t : ℕ) → lts.Need-same-length-7 (calls t) (given t) derive.Post
-same-length-7 t c = back t (c .before .before .before .before .before .before .before) (c .before .before .before .before .derive3 .last .1 .1 .1 .0) (c .before .before .before .before .derive3 .kept .1 .1 .1 .0)
+same-length-6 : (t : ℕ) → lts.Need-same-length-6 (calls t) (given t) derive.Post
+same-length-6 t c = back t (c .before .before .before .before .before .before .before) (c .before .before .before .before .derive3 .last .1 .1 .1 .0) (c .before .before .before .before .derive3 .kept .1 .1 .1 .0)
 
-returns-7 : (t : ℕ) → lts.Need-returns-7 (calls t) (given t) derive.Post
-returns-7 t c =
+returns-6 : (t : ℕ) → lts.Need-returns-6 (calls t) (given t) derive.Post
+returns-6 t c =
     let p = c .before .before .before .before .before .before .before .before .before .before .before .before .before .before .before .before .before .before .before .before .before .before .before .before .before .before .before .before .pre .1 in
-    λ Σ Γ u R. as-node t (c .before .before .before .before .before .before .before .before .before .before .before .before .before .before .before .before .before .before .before) Σ Γ u (Gives t (c .before .before .before .before .before .before .before .before .before .before .before .before .before .before .before .before .before .before .before .before .before .before .before .before .before .before .before .before) Σ Γ (whole-of (c .before .before .before .before .before .before .before .entered .given .0 .0) (c .before .before .before .before .before .before .before .before .before .before .before .enter .last .1 .0) (c .before .before .before .before .derive3 .last .1 .1 .1 .0)) (c .before .before .before .before .derive3 .result)) R (λ o a b R. second-refusal R _ _ _ _ _ _ (first-typed t (c .before .before .before .before .before .before .before .before .before .before .before .before .before .before) R) (test-passed t (c .before .before .before .before .before .before .before) R) (p .below) (mid-length t (c .before .before .before .before .before .before .before)) (p .room) _ (c .before .before .before .before .derive3 .result) (c .before .before .before .before .derive3 .kept .1 .1 .1 .0) (c .before .before .before .before .derive3 .ensures) _ _ (c .enum-told4 .given .1))
+    λ Σ Γ u R. as-node t (c .before .before .before .before .before .before .before .before .before .before .before .before .before .before .before .before .before .before .before) Σ Γ u (Gives t (c .before .before .before .before .before .before .before .before .before .before .before .before .before .before .before .before .before .before .before .before .before .before .before .before .before .before .before .before) Σ Γ (whole-of (c .before .before .before .before .before .before .before .entered .given .0 .0) (c .before .before .before .before .before .before .before .before .before .before .before .enter .last .1 .0) (c .before .before .before .before .derive3 .last .1 .1 .1 .0)) (c .before .before .before .before .derive3 .result)) R (λ o a b R. second-refusal R _ _ _ _ _ _ (first-typed t (c .before .before .before .before .before .before .before .before .before .before .before .before .before .before) R) (test-passed t (c .before .before .before .before .before .before .before) R) (p .below) (mid-length t (c .before .before .before .before .before .before .before)) (p .room) _ (c .before .before .before .before .derive3 .result) (c .before .before .before .before .derive3 .kept .1 .1 .1 .0) (c .before .before .before .before .derive3 .ensures) _ _ (c .enum-told3 .given .1))
 
 formed-requires : (t : ℕ) → lts.Need-formed-requires (calls t) (given t) derive.Post
 formed-requires t c κs =
@@ -330,15 +318,26 @@ formed-requires t c κs =
     let R = M .ready-node in
     formable R _ _ _ _ _ _ (first-typed t (c .before .before .before .before .before .before .before .before .before .before .before .before .before .before .before .before) R) (test-passed t (c .before .before .before .before .before .before .before .before .before) R) (p .below) (mid-length t (c .before .before .before .before .before .before .before .before .before)) (p .room) _ (c .before .before .before .before .before .before .derive3 .result) (c .before .before .before .before .before .before .derive3 .kept .1 .1 .1 .0) (c .before .before .before .before .before .before .derive3 .ensures) _ _ (c .before .before .second .given .1) (p .short)
 
-same-length-8 : (t : ℕ) → lts.Need-same-length-8 (calls t) (given t) derive.Post
-same-length-8 t c = c .before .before .formed .kept .1 .0 ∙ back t (c .before .before .before .before .before .before .before .before .before .before .before .before) (c .before .before .before .before .before .before .before .before .before .derive3 .last .1 .1 .1 .0) (c .before .before .before .before .before .before .before .before .before .derive3 .kept .1 .1 .1 .0)
+same-length-7 : (t : ℕ) → lts.Need-same-length-7 (calls t) (given t) derive.Post
+same-length-7 t c = c .before .before .formed .kept .1 .0 ∙ back t (c .before .before .before .before .before .before .before .before .before .before .before .before) (c .before .before .before .before .before .before .before .before .before .derive3 .last .1 .1 .1 .0) (c .before .before .before .before .before .before .before .before .before .derive3 .kept .1 .1 .1 .0)
 
-returns-8 : (t : ℕ) → lts.Need-returns-8 (calls t) (given t) derive.Post
-returns-8 t c =
+returns-7 : (t : ℕ) → lts.Need-returns-7 (calls t) (given t) derive.Post
+returns-7 t c =
     let p = c .before .before .before .before .before .before .before .before .before .before .before .before .before .before .before .before .before .before .before .before .before .before .before .before .before .before .before .before .before .before .before .before .before .pre .1 in
     λ Σ Γ u R. as-node t (c .before .before .before .before .before .before .before .before .before .before .before .before .before .before .before .before .before .before .before .before .before .before .before .before) Σ Γ u (Gives t (c .before .before .before .before .before .before .before .before .before .before .before .before .before .before .before .before .before .before .before .before .before .before .before .before .before .before .before .before .before .before .before .before .before) Σ Γ (c .before .before .formed .last .1 .0) (c .before .before .formed .result)) R (λ o a b R.
     node-derived R _ _ _ _ _ _ (first-typed t (c .before .before .before .before .before .before .before .before .before .before .before .before .before .before .before .before .before .before .before) R) (test-passed t (c .before .before .before .before .before .before .before .before .before .before .before .before) R) (p .below) (mid-length t (c .before .before .before .before .before .before .before .before .before .before .before .before)) (p .room) _ (c .before .before .before .before .before .before .before .before .before .derive3 .result) (c .before .before .before .before .before .before .before .before .before .derive3 .kept .1 .1 .1 .0) (c .before .before .before .before .before .before .before .before .before .derive3 .ensures) _ _ (c .before .before .before .before .before .second .given .1) _ (c .before .before .formed .result) (c .before .before .formed .kept .1 .0)
     (c .before .before .formed .ensures o a b _ _ (forms-here R _ _ _ _ _ _ (first-typed t (c .before .before .before .before .before .before .before .before .before .before .before .before .before .before .before .before .before .before .before) R) (test-passed t (c .before .before .before .before .before .before .before .before .before .before .before .before) R) (p .below) (mid-length t (c .before .before .before .before .before .before .before .before .before .before .before .before)) (p .room) _ (c .before .before .before .before .before .before .before .before .before .derive3 .result) (c .before .before .before .before .before .before .before .before .before .derive3 .kept .1 .1 .1 .0) (c .before .before .before .before .before .before .before .before .before .derive3 .ensures) _ _ (c .before .before .before .before .before .second .given .1))))
+
+enum-known-entered-2 : (t : ℕ) → lts.Need-enum-known-entered-2 (calls t) (given t) derive.Post
+enum-known-entered-2 t c = search needs
+
+same-length-8 : (t : ℕ) → lts.Need-same-length-8 (calls t) (given t) derive.Post
+same-length-8 t c = c .before .before .before .before .before .enter .kept .1 .0 ∙ first-length t (c .before .before .before .before .before .before .before .before .before .before)
+
+returns-8 : (t : ℕ) → lts.Need-returns-8 (calls t) (given t) derive.Post
+returns-8 t c =
+    λ Σ Γ u R. as-node t (c .before .before .before .before .before .before .before .before .before .before .before .before .before) Σ Γ u (Gives t (c .before .before .before .before .before .before .before .before .before .before .before .before .before .before .before .before .before .before .before .before .before .before) Σ Γ (c .before .before .before .before .before .enter .last .1 .0) (Refused (c .before .entered2 .given .0 .0) (c .before .before .before .before .before .before .before .before .before .before .before .before .before .before .before .before .before .before .before .before .before .before .args .at))) R (λ o a b R. let B = first-typed t (c .before .before .before .before .before .before .before .before) R in
+    test-refusal _ _ _ _ R B (c .before .before .before .before .before .enter .result) _ (c .before .before .before .before .before .enter .ensures o a (B .type) (B .enters)) (c .before .entered2 .given .1))
 
 pub +derive-spec : {M : Type 1} → statement M
 +derive-spec = close μ-derive λ t. lts.spec (calls t)
@@ -379,9 +378,6 @@ pub +derive-spec : {M : Type 1} → statement M
     (returns-5 t)
     (enter-requires t)
     (enum-known-entered t)
-    (enum-told-3 t)
-    (same-length-6 t)
-    (returns-6 t)
     (mul-derive t)
     (sub-derive-3 t)
     (part-derive-start t)
@@ -389,9 +385,12 @@ pub +derive-spec : {M : Type 1} → statement M
     (sub-derive-4 t)
     (derive-requires-3 t)
     (enum-known-second t)
-    (enum-told-4 t)
+    (enum-told-3 t)
+    (same-length-6 t)
+    (returns-6 t)
+    (formed-requires t)
+    (enum-known-entered-2 t)
     (same-length-7 t)
     (returns-7 t)
-    (formed-requires t)
     (same-length-8 t)
     (returns-8 t)
