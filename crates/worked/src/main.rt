@@ -1,5 +1,5 @@
-// Makes document 01's examples and document 02's trust in a whole property through the calls of the register, and prints
-// a line for each.
+// Makes document 01's examples, and those of document 02's requests that have landed, through the calls of the register,
+// and prints a line for each.
 mod lines;
 mod terms;
 
@@ -12,6 +12,7 @@ use crate::lines::read_line;
 use crate::lines::request_line;
 use crate::lines::say_line;
 use crate::terms::A0;
+use crate::terms::A3;
 use crate::terms::C0;
 use crate::terms::C2;
 use crate::terms::C9;
@@ -24,6 +25,7 @@ use crate::terms::SIGN3;
 use crate::terms::SIGN4;
 use crate::terms::V0;
 use crate::terms::deep;
+use crate::terms::escaping;
 use crate::terms::proof;
 use crate::terms::rules;
 use crate::terms::signature;
@@ -134,7 +136,19 @@ fn term_refusals(register: &[u32]) {
     check_line(b"11, Ret a0 s7", register, &string);
 }
 
-// The rows of the refusal table, in its order. The registers of 63 words and of 4 records are those that the examples before left.
+// Document 02, slip 2: the three that 11 was given for, and "a Bind whose body another principal says".
+fn separate_refusals(register: &[u32]) {
+    let string = [APP, S7, V0];
+    check_line(b"18, App s7 V0", register, &string);
+    let principal = [APP, C0, A3];
+    check_line(b"19, App C0 a3", register, &principal);
+    let escape = escaping(A3);
+    check_line(b"20, the escaping proof", register, &escape);
+    let another = escaping(A0);
+    check_line(b"11, the same said by a0", register, &another);
+}
+
+// The rows of the refusal table, in its order; beside 11 stand document 02's. The registers of 63 words and of 4 records are those that the examples before left.
 fn refusals(register: &mut [u32; 64], short: &mut [u32; 63], granted: &[u32; 64]) {
     heading(b"The refusal table, on a register of 64 words");
     begin(register);
@@ -142,6 +156,7 @@ fn refusals(register: &mut [u32; 64], short: &mut [u32; 63], granted: &[u32; 64]
     let said = statement();
     say_line(b"15, a0 says App C2 s7", register, 0, &said);
     term_refusals(register);
+    separate_refusals(register);
     let long = statement_255();
     say_line(b"12, a3 says 255 words", register, 3, &long);
     let another = [SIGN3, APP, C2, S7];

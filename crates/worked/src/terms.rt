@@ -1,5 +1,4 @@
-// The words of document 01's sample, each under the name that the document gives it, and of document 02's trust in a
-// whole property.
+// The words of document 01's sample, each under the name that the document gives it, and of document 02's examples.
 use logic::word::APP;
 use logic::word::CONSTANT_0;
 use logic::word::NAME_0;
@@ -7,6 +6,7 @@ use logic::word::PAYLOADS;
 use logic::word::PROP;
 use logic::word::SAYS;
 use logic::word::TAG_BIND;
+use logic::word::TAG_LAM;
 use logic::word::TAG_PI;
 use logic::word::TAG_PRIN;
 use logic::word::TAG_RET;
@@ -37,11 +37,13 @@ pub(crate) const C9: u32 = C0 + 9;
 
 const PI: u32 = TAG_PI * PAYLOADS;
 
+const LAM: u32 = TAG_LAM * PAYLOADS;
+
 pub(crate) const S7: u32 = TEXT_0 + 7;
 
 pub(crate) const A0: u32 = NAME_0;
 
-const A3: u32 = A0 + 3;
+pub(crate) const A3: u32 = A0 + 3;
 
 const A4: u32 = A0 + 4;
 
@@ -115,6 +117,15 @@ pub(crate) fn proof() -> [u32; 27] {
 // A = App C2 s7, which a3 says.
 pub(crate) fn statement() -> [u32; 3] {
     [APP, C2, S7]
+}
+
+// Document 01's escaping proof, where a3 is the principal a: Lam Pi A Says a App C3 V0 Bind Sign3 A App V1 V0.
+pub(crate) fn escaping(principal: u32) -> [u32; 18] {
+    let first = [LAM, PI, APP, C2, S7, SAYS, principal, APP, C3, V0];
+    let last = [BIND, SIGN3, APP, C2, S7, APP, V1, V0];
+    let mut words = [0u32; 18];
+    lay(&first, &last, &mut words);
+    words
 }
 
 // "For every property Q of homes, what this surveyor says of Q holds", of a5:
