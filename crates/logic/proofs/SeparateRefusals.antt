@@ -9,7 +9,7 @@ use Rattle.logic.specs.Result.{refused}
 use Rattle.logic.specs.Term.{Term, size, encode}
 use Rattle.logic.specs.Move.{shift, fillAt, occurs}
 use Rattle.logic.specs.Scope.{Signature, Context}
-use Rattle.logic.specs.Faults.{Passed, Faults, unbound, long-var, unknown, long-const, in-signed, bad-signed, long-sign, in-sayer, bad-sayer, in-said, bad-said}
+use Rattle.logic.specs.Faults.{Faults, unbound, long-var, unknown, long-const, in-signed, bad-signed, long-sign, in-sayer, bad-sayer, in-said, bad-said}
 use Rattle.logic.specs.Faults.{in-pi-domain, bad-pi-domain, in-pi-body, bad-pi-body, in-lam-domain, bad-lam-domain, in-lam-body, bad-lam-body, long-lam, in-function, bad-function, in-argument, bad-argument, long-app, in-ret-principal, bad-ret-principal, in-ret-proof, bad-ret-proof, long-ret, in-bound, bad-bound, in-rest, bad-rest, escapes, long-bind}
 use Rattle.logic.specs.Infer.{infer, same-term, conclusion}
 use Rattle.logic.specs.Reading.{Plain, read, too-deep}
@@ -101,5 +101,6 @@ separate-examples = record {
   by-other-within = refl;
   function-constant = refl;
   argument-constant = refl;
+  escape = refl;
   escape-constant = refl;
 }

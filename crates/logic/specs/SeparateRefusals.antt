@@ -15,6 +15,7 @@ use Rattle.logic.specs.Infer.{infer}
 use Rattle.logic.specs.Reading.{Plain}
 use Rattle.logic.specs.SignatureList.{signature}
 use Rattle.logic.specs.Worked.{consent, checked}
+use Rattle.logic.specs.Order.{answer-to}
 use Rattle.logic.specs.Sentences.{of-consent}
 
 -- Separate Σ Γ t m: the term t, in the scope Γ, breaks the condition with the number m
@@ -60,7 +61,15 @@ pub record SeparateRefusals (Σ : List Term) : Type 0 where
   pub by-other : {Γ : List Term} {e b a q B : Term} (at : ℕ) → Context Σ Γ → Passed Σ Γ e (Says a q) → Passed Σ (q ∷ Γ) b B →
       ((r : Term) → B ≢ Says (raise 1 a) r) → infer Σ Γ at (Bind e b) ≡ refused 11 at
 
--- the same by literals, with document 01's sample signature: places within a term, and "4" in a signature. More are in
+-- a constant's type with its length word before it
+abbrev pub listed : Term → List ℕ
+listed A = size A ∷ encode A
+
+-- the variable, a proof of C0, escapes; C1 is a property of such proofs
+abbrev pub escaping : Term
+escaping = Bind (sign 3 (Const 0)) (Ret (Name 3) (Lam (App (Const 1) (var 0)) (var 0)))
+
+-- the same by literals: places within a term, with document 01's sample signature, and 4 in a signature. More are in
 -- Worked (document 01's own), Sentences and Order
 pub record SeparateExamples : Type 0 where
   pub function-within : checked (Lam S (App (var 0) (var 9))) ≡ refused 18 2
@@ -68,6 +77,7 @@ pub record SeparateExamples : Type 0 where
   pub escape-within : checked (Lam P (Bind (sign 3 consent) (Ret (Name 3) of-consent))) ≡ refused 20 2
   pub by-other-within : checked (Lam P (Bind (sign 3 consent) (Ret (Name 4) of-consent))) ≡ refused 11 2
   -- a constant's type that breaks one is 4, at its length word
-  pub function-constant : signature (3 ∷ encode (App (Text 7) (Text 7))) ≡ refused 4 0
-  pub argument-constant : signature (3 ∷ encode (Pi S P) ++ (3 ∷ encode (App (Const 0) (Name 3)))) ≡ refused 4 4
-  pub escape-constant : signature (1 ∷ encode P ++ (3 ∷ encode (Pi (Const 0) P)) ++ (9 ∷ encode (Bind (sign 3 (Const 0)) (Ret (Name 3) (Lam (App (Const 1) (var 0)) (var 0)))))) ≡ refused 4 6
+  pub function-constant : signature (listed (App (Text 7) (Text 7))) ≡ refused 4 0
+  pub argument-constant : signature (listed (Pi S P) ++ listed (App (Const 0) (Name 3))) ≡ refused 4 4
+  pub escape : answer-to (P ∷ Pi (Const 0) P ∷ []) (encode escaping) ≡ refused 20 0
+  pub escape-constant : signature (listed P ++ listed (Pi (Const 0) P) ++ listed escaping) ≡ refused 4 6
