@@ -83,7 +83,7 @@ wider : {X : Type 0} {b c : ℕ} {r : Result X} → b ≤ c → Within b r → W
 wider l passed = passed
 wider l (inside {p} a b) = inside {p = p} a (omega arith)
 
--- ---- tests 6 to 12, and 18 to 20
+-- ---- tests 6 to 12
 
 measured-within : {bound : ℕ} (at : ℕ) (A : Term) → at ≤ bound → Within bound (measured at A)
 measured-within at A h = then-within (require (leb (size A) most-type-words) _ at) (ok A) (require-within (leb (size A) most-type-words) _ at (omega arith) h) passed
