@@ -27,8 +27,8 @@ order = record {
   lam-condition-then-measure = refl;
   ret-condition-then-measure = refl;
   sign-condition-then-measure = refl;
-  app-condition-then-measure = refl;
   say-condition-then-measure = refl;
+  app-condition-then-measure = refl;
   sign-measure = refl;
   say-measure = refl;
 }

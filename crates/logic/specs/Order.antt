@@ -45,15 +45,16 @@ pub record Order : Type 0 where
   pub function-then-argument : answer-to [] (encode (App (Text 7) (var 9))) ≡ refused 18 0
   pub principal-then-proof : answer-to [] (encode (Ret (Text 7) (var 0))) ≡ refused 11 0
   pub proof-then-rest : answer-to [] (encode (Bind (Text 7) (Const 9))) ≡ refused 11 0
-  -- and on both, after the second's own faults
+  -- and a condition on both, after the second's own faults
   pub argument-then-both : answer-to (Pi S P ∷ []) (encode (App (Const 0) (var 9))) ≡ refused 9 2
   -- "then the node's type is formed and measured": 11, then 12. The type that would be formed has 257 words
   pub words : size (large-kind 6) ≡ 255
   pub lam-condition-then-measure : answer-to (large-kind 6 ∷ []) (encode (Lam S (Const 0))) ≡ refused 11 0
   pub ret-condition-then-measure : answer-to (large-kind 6 ∷ []) (encode (Ret (Name 0) (Const 0))) ≡ refused 11 0
   pub sign-condition-then-measure : answer-to [] (encode (sign 3 (large-kind 6))) ≡ refused 11 0
-  pub app-condition-then-measure : answer-to (Pi S P ∷ Pi S (Pi (App (Const 0) (var 0)) P) ∷ []) (encode (App (Const 1) (large-proposition 6))) ≡ refused 19 0
   pub say-condition-then-measure : check-statement [] 3 (encode (large-kind 6)) ≡ refused 11 0
+  -- the same of App, with 19: the type that would be formed has 259 words
+  pub app-condition-then-measure : answer-to (Pi S P ∷ Pi S (Pi (App (Const 0) (var 0)) P) ∷ []) (encode (App (Const 1) (large-proposition 6))) ≡ refused 19 0
   -- and 12 where the condition holds
   pub sign-measure : answer-to [] (encode (sign 3 (large-proposition 6))) ≡ refused 12 0
   pub say-measure : check-statement [] 3 (encode (large-proposition 6)) ≡ refused 12 0

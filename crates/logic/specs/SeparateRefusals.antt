@@ -62,8 +62,8 @@ pub record SeparateRefusals (Σ : List Term) : Type 0 where
       ((r : Term) → B ≢ Says (raise 1 a) r) → infer Σ Γ at (Bind e b) ≡ refused 11 at
 
 -- a constant's type with its length word before it
-abbrev pub listed : Term → List ℕ
-listed A = size A ∷ encode A
+abbrev pub with-length : Term → List ℕ
+with-length A = size A ∷ encode A
 
 -- the variable, a proof of C0, escapes; C1 is a property of such proofs
 abbrev pub escaping : Term
@@ -77,7 +77,7 @@ pub record SeparateExamples : Type 0 where
   pub escape-within : checked (Lam P (Bind (sign 3 consent) (Ret (Name 3) of-consent))) ≡ refused 20 2
   pub by-other-within : checked (Lam P (Bind (sign 3 consent) (Ret (Name 4) of-consent))) ≡ refused 11 2
   -- a constant's type that breaks one is 4, at its length word
-  pub function-constant : signature (listed (App (Text 7) (Text 7))) ≡ refused 4 0
-  pub argument-constant : signature (listed (Pi S P) ++ listed (App (Const 0) (Name 3))) ≡ refused 4 4
+  pub function-constant : signature (with-length (App (Text 7) (Text 7))) ≡ refused 4 0
+  pub argument-constant : signature (with-length (Pi S P) ++ with-length (App (Const 0) (Name 3))) ≡ refused 4 4
   pub escape : answer-to (P ∷ Pi (Const 0) P ∷ []) (encode escaping) ≡ refused 20 0
-  pub escape-constant : signature (listed P ++ listed (Pi (Const 0) P) ++ listed escaping) ≡ refused 4 6
+  pub escape-constant : signature (with-length P ++ with-length (Pi (Const 0) P) ++ with-length escaping) ≡ refused 4 6
