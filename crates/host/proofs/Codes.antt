@@ -22,6 +22,8 @@ use Rattle.calls.proofs.Checks.{words-within, handed-type, handed-nothing}
 use Rattle.say.specs.Said.{said-answer, Says-so}
 use Rattle.say.specs.declared.Said.{Said}
 use Rattle.say.specs.declared.Said.the-variants.{Added, Held, Fault as Not-said}
+use Rattle.extract.specs.Extract.{extract-call}
+use Rattle.extract.proofs.Demands.{extract-bound}
 use Rattle.host.specs.Answers.{number-unit, place-limit, code-of, added-of, Said-to, Typed-to}
 
 -- a number and a place that make up an answer
@@ -61,6 +63,12 @@ open-fits l reg rules m p h e = let (n, q) = open-bound l reg rules e in omega a
 
 pub request-fits : (l : Lent) (reg : List ℕ) (i v u : ℕ) (proof : List ℕ) (m p : ℕ) → length (l .sig) + length proof < place-limit → request-call l reg i v u proof ≡ refused m p → Fits m p
 request-fits l reg i v u proof m p h e = let (n, q) = request-bound l reg i v u proof e in omega arith
+
+-- ---- extract
+
+pub extract-fits : (l : Lent) (reg : List ℕ) (i v u : ℕ) (proof homes surveys : List ℕ) (room m p : ℕ) → length (l .sig) + length proof < place-limit →
+    extract-call l reg i v u proof homes surveys room ≡ refused m p → Fits m p
+extract-fits l reg i v u proof homes surveys room m p h e = let (n, q) = extract-bound l reg i v u proof homes surveys room e in omega arith
 
 -- ---- say
 

@@ -9,7 +9,9 @@ use Rattle.logic.specs.Term.{Term}
 use Rattle.register.specs.Records.{Record, header, words-of, register-records}
 use Rattle.register.specs.Calls.{read-call, after-open, after-say, after-request}
 use Rattle.records.specs.Answers.{body-of, kind-of}
+use Rattle.typing.specs.Check.{without-value}
 use Rattle.calls.specs.Answers.{type-of}
+use Rattle.homes.specs.Homes.{after-write}
 
 -- "the refusal number times 4294967296 plus the place"
 abbrev pub number-unit : ℕ
@@ -43,6 +45,12 @@ pub record Said-to (o : Result Bool) (old : List ℕ) (a : ℕ) (q new : List �
 pub record Requested-to (o : Result (Unit {0})) (old : List ℕ) (i v u : ℕ) (p new : List ℕ) (code : ℕ) : Type 0 where
   pub answer : code ≡ code-of o
   pub register : new ≡ after-request o old i v u p
+
+-- an extract: also the output
+pub record Extracted-to (o : Result (List ℕ)) (reg : List ℕ) (i v u : ℕ) (p new old out : List ℕ) (code : ℕ) : Type 0 where
+  pub answer : code ≡ code-of o
+  pub register : new ≡ after-request (without-value o) reg i v u p
+  pub output : out ≡ after-write o old
 
 -- a check that tells where the type stands: the first words of the workspace, none where refused
 pub record Typed-to (o : Result Term) (workspace : List ℕ) (words code : ℕ) : Type 0 where

@@ -17,7 +17,8 @@ ghost use lib.ListN.{length};
 ghost use Rattle.logic.specs.Refusals.{last-number};
 ghost use Rattle.register.specs.Calls.{open-call, say-call, request-call, check-call};
 ghost use Rattle.calls.specs.Shared.{lent-of};
-ghost use Rattle.host.specs.Answers.{number-unit, place-limit, code-of, Opened-to, Said-to, Requested-to, Typed-to, Read-to};
+ghost use Rattle.extract.specs.Extract.{extract-call};
+ghost use Rattle.host.specs.Answers.{number-unit, place-limit, code-of, Opened-to, Said-to, Requested-to, Extracted-to, Typed-to, Read-to};
 
 // What a refusal's number is multiplied by.
 const NUMBER_UNIT: u64 = 4294967296;
@@ -100,6 +101,46 @@ pub extern "C" fn aura0_request(
         delivery,
         proof,
         workspace,
+    );
+    match verdict {
+        Verdict::Passed => 0,
+        Verdict::Fault { number, place } => code(number, place),
+    }
+}
+
+// Extract: the form of a list of homes, a table of surveys and an output; then the request; and behind its grant every home
+// with its code.
+#[no_mangle]
+pub extern "C" fn aura0_extract(
+    signature: &[u32],
+    n: u32,
+    register: &mut [u32],
+    operation: u32,
+    extract: u32,
+    delivery: u32,
+    proof: &[u32],
+    homes: &[u32],
+    surveys: &[u32],
+    output: &mut [u32],
+    workspace: &mut [u32],
+) -> u64
+    ensures { λ r. ⌜ Extracted-to
+        (extract-call (lent-of (now (signature .entry)) n (length (now (workspace .entry)))) (now (register .entry)) operation extract delivery
+        (now (proof .entry)) (now (homes .entry)) (now (surveys .entry)) (length (now (output .entry))))
+        (now (register .entry)) operation extract delivery (now (proof .entry)) (now (register .exit)) (now (output .entry)) (now (output .exit)) r ⌝ }
+{
+    let verdict = extract::extract(
+        signature,
+        n,
+        register,
+        operation,
+        extract,
+        delivery,
+        proof,
+        workspace,
+        homes,
+        surveys,
+        output,
     );
     match verdict {
         Verdict::Passed => 0,

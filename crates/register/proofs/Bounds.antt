@@ -1,6 +1,8 @@
--- Every refusal of a call has a number from 1 to 20, as documents 01 and 02 give them, and a place within what was lent.
+-- Every refusal of a call on the register has one of the numbers that documents 01 and 02 give it, and a place within what
+-- was lent.
 use Prim.Native.Nat.{ℕ, zero, suc, _+_, _-_, _≤_}
 use mathlib.Core.Path.{_≡_, refl, sym, ap, _∙_}
+use mathlib.Core.Logic.{_≢_}
 use mathlib.Core.Bool.{Bool, true, false, _&&_, not}
 use mathlib.Core.List.{List, [], _∷_, _++_}
 use mathlib.Core.Option.{Option, some, none}
@@ -9,7 +11,7 @@ use lib.Dec.{leb, ltb, eqb}
 use lib.ListN.{length, take, drop, getElem?, length-drop, length-append}
 use borrow.Author.Tests.{leb-true}
 use Rattle.logic.specs.Limits.{most-type-words, most-words, most-nesting, most-statement-words, most-statement-nesting, least-workspace, least-register, most-register, most-constants, most-constant-words}
-use Rattle.logic.specs.Refusals.{bad-signature, malformed, last-number}
+use Rattle.logic.specs.Refusals.{bad-signature, malformed, out-of-form, last-number}
 use Rattle.logic.specs.Result.{Result, ok, refused, _>>=_, _>>_, require, known, nowhere, pick}
 use Rattle.logic.specs.Term.{propA, typeA, stringA, prinA, kindPA, kindTA, constA, textA, nameA, saysO, piO, lamO, appO, retO, bindO, Atom, Term, atom, var, sign, node, P, N, Name, Says, Pi, encode, size}
 use Rattle.logic.specs.Move.{raise, lower, fill, occurs}
@@ -27,9 +29,9 @@ use Rattle.logic.proofs.Places.{stands-words}
 use Rattle.register.specs.Records.{Record, header, used, count, records, register-records, held, words-of, statement, say-kind}
 use Rattle.register.specs.Calls.{Lent, View, payload, Holding, length-test, shared, signs-held, fits, check-own, check-call, say-own, say-call, permission, entry, request-own, request-call, at-rule, with-rule, opening, open-own, open-call, read-call}
 
--- a refusal number of document 01 or 02
+-- a refusal number of document 01 or 02, of a call on the register: 21 is the extract desk's alone
 abbrev pub Number : ℕ → Type 0
-Number m = (1 ≤ m) × (m ≤ last-number)
+Number m = (1 ≤ m) × (m ≤ last-number) × (m ≢ out-of-form)
 
 -- where a result is a refusal, it has such a number and a place up to the bound
 pub data Within {X : Type 0} (bound : ℕ) : Result X → Type 0 where

@@ -1,0 +1,3 @@
+-- Bytes put into a buffer, numbers in decimal, and what guards their definition.
+pub mod Decimal
+pub mod Guards

@@ -1,0 +1,32 @@
+-- The guards hold, by computing.
+use mathlib.Core.Path.{refl}
+use native.Mathlib.Decide.{ℕ-discrete}
+use Rattle.logic.specs.Term.{size, encode}
+use Rattle.logic.specs.Move.{shift, fillAt, occurs}
+use Rattle.logic.specs.Reading.{read, too-deep, first-unheld}
+use Rattle.logic.specs.Infer.{infer, same-term, conclusion}
+use Rattle.logic.specs.SignatureList.{constants, operations}
+use Rattle.register.specs.Records.{records, words-of, held, same-words}
+use Rattle.register.specs.Calls.{opening}
+use Rattle.register.specs.History.{run}
+use Rattle.register.specs.Worked.{listed}
+use Rattle.homes.specs.Homes.{rising, rows, formed, code-of, joined}
+use Rattle.extract.specs.Extract.{extract-call}
+use Rattle.extract.specs.Desk.{desk-run, desk-answers}
+use Rattle.extract.specs.Guards.{ExtractGuards}
+
+pub extract-guards : ExtractGuards
+unfolding infer same-term conclusion read too-deep first-unheld shift fillAt occurs size encode ℕ-discrete constants operations records words-of held same-words opening run listed rising rows formed code-of joined extract-call desk-run desk-answers
+extract-guards = record {
+  granted = refl;
+  written = refl;
+  register = refl;
+  form-first = refl;
+  before-workspace = refl;
+  short-output = refl;
+  workspace = refl;
+  no-room = refl;
+  not-said = refl;
+  not-written = refl;
+  register-kept = refl;
+}

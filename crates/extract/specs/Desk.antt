@@ -1,0 +1,81 @@
+-- Lists of calls with extracts among them, each as its request.
+use Prim.Native.Nat.{ℕ}
+use mathlib.Core.Path.{_≡_}
+use mathlib.Core.List.{List, [], _∷_, _++_, List·Permᴰ}
+use lib.ListN.{length}
+use Rattle.logic.specs.Refusals.{out-of-form}
+use Rattle.logic.specs.Result.{Result, ok, refused, pick}
+use Rattle.typing.specs.Check.{without-value}
+use Rattle.register.specs.Records.{Record, register-records, written}
+use Rattle.register.specs.Calls.{after-request, open-call}
+use Rattle.register.specs.History.{Setting, lent, Call, Reply, request, requested, reply, after, Refused, run, read-off, Demand, Reordered}
+use Rattle.homes.specs.Homes.{formed}
+use Rattle.extract.specs.Extract.{extract-call}
+
+-- a say or a request, or an extract with its list, its table and the words of its output
+pub data DeskCall : Type 0 where
+  plain : Call → DeskCall
+  extract : (workspace i v u : ℕ) (proof homes surveys : List ℕ) (room : ℕ) → DeskCall
+
+-- what a call answers; an extract as a request does, but for the words that it writes
+abbrev pub desk-reply : Setting → List ℕ → DeskCall → Reply
+desk-reply s reg (plain c) = reply s reg c
+desk-reply s reg (extract w i v u p hs t room) = requested (without-value (extract-call (lent s w) reg i v u p hs t room))
+
+-- the register that a call leaves
+abbrev pub desk-after : Setting → List ℕ → DeskCall → List ℕ
+desk-after s reg (plain c) = after s reg c
+desk-after s reg (extract w i v u p hs t room) = after-request (without-value (extract-call (lent s w) reg i v u p hs t room)) reg i v u p
+
+-- each call gets the register as the one before left it
+unfoldable pub desk-run : Setting → List ℕ → List DeskCall → List ℕ
+desk-run s reg [] = reg
+desk-run s reg (c ∷ cs) = desk-run s (desk-after s reg c) cs
+
+unfoldable pub desk-answers : Setting → List ℕ → List DeskCall → List Reply
+desk-answers s reg [] = []
+desk-answers s reg (c ∷ cs) = desk-reply s reg c ∷ desk-answers s (desk-after s reg c) cs
+
+-- ---- each extract taken as its request
+
+-- an extract as its request, and as nothing where its form is broken
+abbrev pub as-request : DeskCall → List Call
+as-request (plain c) = c ∷ []
+as-request (extract w i v u p hs t room) = pick (formed hs t room) (request w i v u p ∷ []) []
+
+unfoldable pub as-requests : List DeskCall → List Call
+as-requests [] = []
+as-requests (c ∷ cs) = as-request c ++ as-requests cs
+
+-- what a call answers then: 21 where the form is broken
+abbrev pub reply-as-request : Setting → List ℕ → DeskCall → Reply
+reply-as-request s reg (plain c) = reply s reg c
+reply-as-request s reg (extract w i v u p hs t room) = pick (formed hs t room) (reply s reg (request w i v u p)) (requested (refused out-of-form 0))
+
+unfoldable pub answers-as-requests : Setting → List ℕ → List DeskCall → List Reply
+answers-as-requests s reg [] = []
+answers-as-requests s reg (c ∷ cs) = reply-as-request s reg c ∷ answers-as-requests s (run s reg (as-request c)) cs
+
+-- ---- the third demand
+
+unfoldable pub NoDeskRefusal : Setting → List ℕ → List DeskCall → Type 0
+NoDeskRefusal s reg [] = Unit {0}
+NoDeskRefusal s reg (c ∷ cs) = (Refused (desk-reply s reg c) → ⊥) × NoDeskRefusal s (desk-after s reg c) cs
+
+-- the third demand for one history with extracts: reg is the register just opened, rules its records
+pub record DeskDemand (s : Setting) (reg : List ℕ) (rules : List Record) (calls : List DeskCall) : Type 0 where
+  -- each extract replaced by its request, and by nothing where it is 21, leaves the same register
+  pub same-register : desk-run s reg calls ≡ run s reg (as-requests calls)
+  -- and the same answers
+  pub answered : desk-answers s reg calls ≡ answers-as-requests s reg calls
+  -- so the third demand speaks of it
+  pub demand : Demand s reg rules (as-requests calls)
+  pub recorded : register-records (desk-run s reg calls) ≡ ok (read-off s (length reg) rules (as-requests calls))
+  -- if neither of two orders has a refusal, they leave alike registers
+  pub reordered : (calls′ : List DeskCall) → List·Permᴰ calls calls′ → NoDeskRefusal s reg calls → NoDeskRefusal s reg calls′ →
+      Reordered s reg rules (as-requests calls) (as-requests calls′)
+
+-- for every opening that succeeded and every list of calls after it
+abbrev pub DeskDemand3 : Type 0
+DeskDemand3 = (s : Setting) (w : ℕ) (given rule-words : List ℕ) (rules : List Record) (calls : List DeskCall) →
+    open-call (lent s w) given rule-words ≡ ok rules → DeskDemand s (written given rules) rules calls

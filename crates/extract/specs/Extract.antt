@@ -1,0 +1,25 @@
+-- The extract desk: the form, then the request, then the writing. Sentences in quotation marks are document 02's,
+-- slip 3. "It works from the register's published answers only".
+use Prim.Native.Nat.{ℕ}
+use mathlib.Core.Path.{_≡_}
+use mathlib.Core.List.{List}
+use Rattle.logic.specs.Refusals.{out-of-form}
+use Rattle.logic.specs.Result.{Result, ok, _>>_, require}
+use Rattle.rules.specs.declared.derivation.Verdict.{Verdict}
+use Rattle.rules.specs.Form.{verdict-answer}
+use Rattle.typing.specs.Check.{without-value}
+use Rattle.register.specs.Calls.{Lent, request-call, after-request}
+use Rattle.homes.specs.Homes.{formed, joined, after-write}
+
+-- the words to write, or the refusal: a form that is broken "is refused with 21 before the request is tried"
+unfoldable pub extract-call : Lent → (reg : List ℕ) (i v u : ℕ) (proof homes surveys : List ℕ) (room : ℕ) → Result (List ℕ)
+extract-call l reg i v u p hs t room = do
+  require (formed hs t room) out-of-form 0
+  request-call l reg i v u p
+  ok (joined hs t)
+
+-- the answer, and the register and the output afterwards
+pub record Extracted (o : Result (List ℕ)) (reg : List ℕ) (i v u : ℕ) (p new old out : List ℕ) (r : Verdict) : Type 0 where
+  pub answer : verdict-answer r ≡ without-value o
+  pub register : new ≡ after-request (without-value o) reg i v u p
+  pub output : out ≡ after-write o old

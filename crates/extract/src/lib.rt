@@ -1,0 +1,44 @@
+// Extract: a request, and behind its grant every home of a list with its survey code. "It works from the register's
+// published answers only": nothing here reads a word of the register.
+use homes::join;
+use homes::well_formed;
+use logic::refusal::OUT_OF_FORM;
+use request::request;
+use rules::derivation::Verdict;
+ghost use lib.ListN.{length};
+ghost use Rattle.calls.specs.Shared.{lent-of};
+ghost use Rattle.extract.specs.Extract.{extract-call, Extracted};
+
+// First the form, then the request; the output is written behind the grant.
+pub fn extract(
+    sig: &[u32],
+    n: u32,
+    register: &mut [u32],
+    operation: u32,
+    extract: u32,
+    delivery: u32,
+    proof: &[u32],
+    ws: &mut [u32],
+    homes: &[u32],
+    surveys: &[u32],
+    out: &mut [u32],
+) -> Verdict
+    ensures { λ r. ⌜ Extracted
+        (extract-call (lent-of (now (sig .entry)) n (length (now (ws .entry)))) (now (register .entry)) operation extract delivery
+        (now (proof .entry)) (now (homes .entry)) (now (surveys .entry)) (length (now (out .entry))))
+        (now (register .entry)) operation extract delivery (now (proof .entry)) (now (register .exit)) (now (out .entry)) (now (out .exit)) r ⌝ }
+{
+    let fine = well_formed(homes, surveys, out.len());
+    if !fine {
+        return Verdict::Fault {
+            number: OUT_OF_FORM,
+            place: 0,
+        };
+    }
+    let answer = request(sig, n, register, operation, extract, delivery, proof, ws);
+    let Verdict::Passed = answer else {
+        return answer;
+    };
+    join(homes, surveys, out);
+    Verdict::Passed
+}

@@ -1,0 +1,2 @@
+-- Numbers in a file's lines.
+pub mod NumberFile
