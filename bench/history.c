@@ -1,27 +1,9 @@
 // Times a history of 1,000 says and 1,000 requests, in turn, on a register of 1,048,576 words that opens with document 01's rule r.
-#include <stdio.h>
-#include <stdlib.h>
-#include <time.h>
-#include "../host/sample.h"
+#include "bench.h"
 
 #define CALLS 1000
 
 static uint32_t words[1048576], workspace[12288];
-
-static double now(void)
-{
-    struct timespec t;
-    clock_gettime(CLOCK_MONOTONIC, &t);
-    return t.tv_sec * 1e9 + t.tv_nsec;
-}
-
-static void want(uint64_t answer)
-{
-    if (answer != 0) {
-        printf("refused: %u at %u\n", aura0_number(answer), aura0_place(answer));
-        exit(1);
-    }
-}
 
 int main(void)
 {

@@ -24,6 +24,18 @@ static void fill(uint32_t *words, size_t length)
     printf("words used %u\n", words[0]);
 }
 
+// The same request by the extract desk: a list of three homes, of which one has a survey, and an output of two words a home.
+static void extract(uint32_t *words, size_t length, size_t output_words)
+{
+    static const uint32_t homes[] = { 11, 12, 15 }, surveys[] = { 12, 4, 14, 9 };
+    uint32_t output[6] = { 0 };
+    print("extract", aura0_extract(LIST(signature), OPERATIONS, words, length, 0, 7, 9, LIST(proof), LIST(homes), LIST(surveys), output, output_words, LIST(workspace)));
+    printf("words used %u, homes", words[0]);
+    for (size_t i = 0; i < 6; i += 2)
+        printf(" %u,%u", output[i], output[i + 1]);
+    printf("\n");
+}
+
 // The records as the listing program prints them. A grant's body is operation, extract, delivery and proof; its principal is 0.
 static void list(const uint32_t *words, size_t length)
 {
@@ -46,7 +58,7 @@ static void list(const uint32_t *words, size_t length)
 
 int main(void)
 {
-    static uint32_t words[64], fewer[63];
+    static uint32_t words[64], fewer[63], more[104];
     uint32_t added;
     size_t type_words;
 
@@ -63,5 +75,11 @@ int main(void)
 
     fill(fewer, 63);
     list(fewer, 63);
+
+    fill(more, 104);
+    extract(more, 104, 5);
+    extract(more, 104, 6);
+    extract(more, 104, 6);
+    list(more, 104);
     return 0;
 }

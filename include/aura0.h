@@ -35,8 +35,13 @@ enum {
     AURA0_ANOTHER_PROPOSITION = 13, // another proposition proved
     AURA0_NOT_HELD = 14,            // signature not held; place: first such Sign
     AURA0_REGISTER_FULL = 16,       // words used and the new entry's together pass the register's length
-    AURA0_PAST_LAST_RECORD = 17     // read past the last record
+    AURA0_PAST_LAST_RECORD = 17,    // read past the last record
+    // document 02, slip 3: before every test of the table
+    AURA0_OUT_OF_FORM = 21          // an extract's list of homes, table of surveys or output out of form
 };
+
+// What stands for the code of a home without a survey.
+#define AURA0_NO_SURVEY UINT32_C(4294967295)
 
 // The kinds of records.
 enum { AURA0_RULE = 1, AURA0_SAY = 2, AURA0_GRANT = 3, AURA0_RECEIPT = 4 };
@@ -58,6 +63,15 @@ uint64_t aura0_say(const uint32_t *signature, size_t signature_words, uint32_t n
 uint64_t aura0_request(const uint32_t *signature, size_t signature_words, uint32_t n, uint32_t *register_, size_t register_words,
                        uint32_t operation, uint32_t extract, uint32_t delivery, const uint32_t *proof, size_t proof_words,
                        uint32_t *workspace, size_t workspace_words);
+
+// The extract desk. The list has at most 1,024 homes, strictly rising. The table has rows of a home and a code, flat, at most
+// 4,096, its homes strictly rising and no code AURA0_NO_SURVEY. The output has at least two words a home. Anything else is 21
+// at 0, before the request is tried. Then makes the request, and where it is granted writes each home of the list, in its
+// order, with its code or AURA0_NO_SURVEY at the front of the output. A refusal leaves register and output as they were.
+uint64_t aura0_extract(const uint32_t *signature, size_t signature_words, uint32_t n, uint32_t *register_, size_t register_words,
+                       uint32_t operation, uint32_t extract, uint32_t delivery, const uint32_t *proof, size_t proof_words,
+                       const uint32_t *homes, size_t homes_words, const uint32_t *surveys, size_t surveys_words,
+                       uint32_t *output, size_t output_words, uint32_t *workspace, size_t workspace_words);
 
 // Checks a term against the register, without the type.
 uint64_t aura0_check(const uint32_t *signature, size_t signature_words, uint32_t n, const uint32_t *register_, size_t register_words,

@@ -2,7 +2,7 @@
 // Prints a line a file, and each wrong answer with its file and line; the exit status is 1 where an answer was wrong, or where a file has
 // no answer of this level, so that nothing was compared.
 // After each call it also compares what was lent with what it was before: the signature and the term, the register where it may not
-// change, the register's words past the used count, and the words behind each buffer.
+// change, the register's words past the used count, an output's words past the last home, and the words behind each buffer.
 #define _POSIX_C_SOURCE 200809L
 #include <stdarg.h>
 #include <stdio.h>
@@ -11,7 +11,7 @@
 #include <unistd.h>
 #include "../include/aura0.h"
 
-enum { LEVEL = 2, MOST = 1 << 21, GUARD = 16, PATTERN = 0x5a5a5a5a };
+enum { LEVEL = 3, MOST = 1 << 21, GUARD = 16, PATTERN = 0x5a5a5a5a };
 
 // a lent list of words, with a guard behind it, and what it held before the call
 struct lent {
@@ -19,7 +19,7 @@ struct lent {
     size_t length;
 };
 
-static struct lent signature, reg, term, workspace;
+static struct lent signature, reg, term, workspace, homes, surveys, output;
 static uint32_t n;
 static unsigned long level;
 static const char *listing;
@@ -79,11 +79,11 @@ static const char *after(const char *line, const char *name)
     return strncmp(line, name, length) == 0 && (line[length] == 0 || line[length] == ' ') ? line + length : NULL;
 }
 
-// what is left of a line: 8-digit hexadecimal words, each behind a blank
-static void read_words(struct lent *to, const char *rest)
+// 8-digit hexadecimal words, each behind a blank, up to a bar or the end of the line; where they end
+static const char *read_words(struct lent *to, const char *rest)
 {
     to->length = 0;
-    while (*rest != 0) {
+    while (*rest != 0 && strncmp(rest, " |", 2) != 0) {
         char *end;
         unsigned long word = strtoul(rest + 1, &end, 16);
         if (*rest != ' ' || end != rest + 9 || to->length == MOST)
@@ -91,6 +91,26 @@ static void read_words(struct lent *to, const char *rest)
         to->words[to->length++] = (uint32_t)word;
         rest = end;
     }
+    return rest;
+}
+
+// what is left of a line
+static void read_last(struct lent *to, const char *rest)
+{
+    if (*read_words(to, rest) != 0)
+        stop("more than a list of words");
+}
+
+// what stands behind a bar
+static const char *behind_bar(const char *rest)
+{
+    if (strncmp(rest, " |", 2) != 0)
+        stop("no bar");
+    rest += 2;
+    // of blanks in a row, the last one counts
+    while (rest[0] == ' ' && rest[1] == ' ')
+        rest++;
+    return rest;
 }
 
 // a decimal number behind a blank
@@ -122,7 +142,7 @@ static void same_from(const struct lent *list, size_t start, const char *what)
 // before a call with a term and a workspace of its own
 static void lend(size_t words, const char *rest)
 {
-    read_words(&term, rest);
+    read_last(&term, rest);
     fill(&workspace, words, PATTERN);
     keep(&signature);
     keep(&reg);
@@ -168,6 +188,26 @@ static int call(const char *line)
         uint64_t code = aura0_request(LENT(signature), n, LENT(reg), operation, extract, delivery, LENT(term), LENT(workspace));
         take_back(code == 0);
         put("request %u %u", aura0_number(code), aura0_place(code));
+    } else if ((rest = after(line, "extract")) != NULL) {
+        size_t words = read_number(&rest, MOST);
+        uint32_t operation = read_number(&rest, UINT32_MAX), extract = read_number(&rest, UINT32_MAX), delivery = read_number(&rest, UINT32_MAX);
+        fill(&output, read_number(&rest, MOST), PATTERN);
+        rest = read_words(&homes, behind_bar(rest));
+        rest = read_words(&surveys, behind_bar(rest));
+        keep(&homes);
+        keep(&surveys);
+        keep(&output);
+        lend(words, behind_bar(rest));
+        uint64_t code = aura0_extract(LENT(signature), n, LENT(reg), operation, extract, delivery, LENT(term), LENT(homes), LENT(surveys), LENT(output), LENT(workspace));
+        take_back(code == 0);
+        same_from(&homes, 0, "list of homes");
+        same_from(&surveys, 0, "table of surveys");
+        size_t result = code == 0 ? 2 * homes.length : 0;
+        if (result > output.length)
+            stop("more words written than there are");
+        same_from(&output, result, "output");
+        put("extract %u %u", aura0_number(code), aura0_place(code));
+        put_words(output.words, result);
     } else if ((rest = after(line, "check")) != NULL) {
         size_t words = read_number(&rest, MOST), type_words = PATTERN;
         lend(words, rest);
@@ -239,9 +279,9 @@ static int set(const char *line)
     } else if ((rest = after(line, "zeros")) != NULL) {
         fill(&reg, read_number(&rest, MOST), 0);
     } else if ((rest = after(line, "sig")) != NULL)
-        read_words(&signature, rest);
+        read_last(&signature, rest);
     else if ((rest = after(line, "register")) != NULL)
-        read_words(&reg, rest);
+        read_last(&reg, rest);
     else
         return 0;
     return 1;

@@ -5,11 +5,11 @@ use mathlib.Core.Path.{_≡_, refl, sym, ap, ap₂, _∙_}
 use mathlib.Core.Bool.{Bool, true, false}
 use mathlib.Core.List.{List, [], _∷_, _++_, List·Permᴰ, List·Permᴰ·nil, List·Permᴰ·cons, List·Permᴰ·swap, List·Permᴰ·trans, Permᴰ·refl, Permᴰ·symm, Permᴰ·append-left, Permᴰ·middle}
 use Rattle.logic.specs.Refusals.{out-of-form}
-use Rattle.logic.specs.Result.{Result, ok, refused, pick}
+use Rattle.logic.specs.Result.{Result, refused, pick}
 use Rattle.typing.specs.Check.{without-value}
-use Rattle.register.specs.Records.{Record, register-records, written}
-use Rattle.register.specs.Calls.{after-request, open-call}
-use Rattle.register.specs.History.{Setting, lent, Call, Reply, request, requested, reply, after, Refused, request-refused, run, NoRefusal}
+use Rattle.register.specs.Records.{register-records, written}
+use Rattle.register.specs.Calls.{after-request}
+use Rattle.register.specs.History.{Setting, lent, Call, Reply, request, requested, reply, after, Refused, run, NoRefusal}
 use Rattle.register.proofs.Demand.{demand3}
 use Rattle.homes.specs.Homes.{formed}
 use Rattle.extract.specs.Extract.{extract-call}

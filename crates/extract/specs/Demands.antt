@@ -6,7 +6,7 @@ use mathlib.Core.Logic.{_↔_}
 use mathlib.Core.List.{List}
 use lib.ListN.{length}
 use Rattle.logic.specs.Refusals.{out-of-form}
-use Rattle.logic.specs.Result.{Result, ok, number-of}
+use Rattle.logic.specs.Result.{number-of}
 use Rattle.typing.specs.Check.{without-value}
 use Rattle.register.specs.Calls.{Lent, request-call, after-request}
 use Rattle.register.specs.Succeeds.{Grantable, Demand2}
@@ -40,7 +40,8 @@ module _ (l : Lent) (reg : List ℕ) (i v u : ℕ) (p hs t : List ℕ) (room : �
         after-request (without-value (extract-call l reg i v u p hs t room)) reg i v u p ≡ after-request (request-call l reg i v u p) reg i v u p
     pub register-kept : {m place : ℕ} → ExtractRefused m place → after-request (without-value (extract-call l reg i v u p hs t room)) reg i v u p ≡ reg
     -- granted, the output is right, and "A refused request writes nothing"
-    pub output-right : {xs : List ℕ} (old : List ℕ) → length old ≡ room → Extractable xs → Right hs t old (after-write (extract-call l reg i v u p hs t room) old)
+    pub output-right : {xs : List ℕ} (old : List ℕ) → length old ≡ room → Extractable xs →
+        Right hs t old (after-write (extract-call l reg i v u p hs t room) old)
     pub output-kept : {m place : ℕ} (old : List ℕ) → ExtractRefused m place → after-write (extract-call l reg i v u p hs t room) old ≡ old
 
 -- the first and the second demand, of the calls on the register and of the extract desk

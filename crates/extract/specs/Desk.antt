@@ -4,7 +4,7 @@ use mathlib.Core.Path.{_≡_}
 use mathlib.Core.List.{List, [], _∷_, _++_, List·Permᴰ}
 use lib.ListN.{length}
 use Rattle.logic.specs.Refusals.{out-of-form}
-use Rattle.logic.specs.Result.{Result, ok, refused, pick}
+use Rattle.logic.specs.Result.{ok, refused, pick}
 use Rattle.typing.specs.Check.{without-value}
 use Rattle.register.specs.Records.{Record, register-records, written}
 use Rattle.register.specs.Calls.{after-request, open-call}

@@ -9,7 +9,7 @@ use Rattle.register.specs.History.{requested, lent, run}
 use Rattle.register.specs.Worked.{setting, opened, say-consent, request-extract}
 use Rattle.homes.specs.Homes.{after-write}
 use Rattle.extract.specs.Extract.{extract-call}
-use Rattle.extract.specs.Desk.{DeskCall, plain, extract, desk-run, desk-answers}
+use Rattle.extract.specs.Desk.{DeskCall, extract, desk-run, desk-answers}
 
 -- document 01's request as an extract: three homes and one survey
 abbrev pub three-homes : (workspace room : ℕ) → DeskCall

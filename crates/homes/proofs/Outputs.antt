@@ -12,7 +12,7 @@ use borrow.Author.Tests.{eqb-true, eqb-false, eq-eqb, ne-eqb, leb-true, leb-fals
 use Rattle.logic.specs.Result.{pick}
 use Rattle.words.specs.Place.{written}
 use Rattle.words.proofs.Lists.{length-written, written-front}
-use Rattle.homes.specs.Homes.{no-survey, rows, formed, code-of, joined}
+use Rattle.homes.specs.Homes.{no-survey, rows, code-of, joined}
 use Rattle.homes.specs.Right.{Row, InForm, Right, with-code, without-code, WritingStep}
 use Rattle.homes.proofs.Joins.{row-facts, odd, formed-facts}
 use Rattle.homes.proofs.InForm.{next, next-one, rows-least, rows-code, in-form}

@@ -1,14 +1,13 @@
 -- The join in one pass, a turn at a time.
-use Prim.Native.Nat.{ℕ, suc, _+_, _*_, _≤_, _<_}
-use native.Mathlib.Numerals.{add-one}
+use Prim.Native.Nat.{ℕ, _+_, _*_, _≤_, _<_}
 use native.Mathlib.Omega.{arith}
 use mathlib.Core.Path.{_≡_, refl, sym, ap, ap₂, _∙_}
 use mathlib.Core.Bool.{Bool, true, false}
 use mathlib.Core.List.{List, [], _∷_, _++_, append-nil}
 use lib.Dec.{ltb}
 use lib.ListN.{length, drop, getD, set, length-append, length-drop, drop-of-length-le}
-use lib.Seq.{drop-drop, drop-cons, set-at, append-snoc}
-use borrow.Author.Tests.{le-leb, lt-leb, eq-eqb, ne-eqb}
+use lib.Seq.{drop-drop, append-snoc}
+use borrow.Author.Tests.{eq-eqb, ne-eqb}
 use Rattle.logic.specs.Result.{pick}
 use Rattle.homes.specs.Homes.{no-survey, formed, joined, lower, here}
 use Rattle.words.specs.Place.{written}
