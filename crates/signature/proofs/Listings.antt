@@ -9,7 +9,7 @@ use mathlib.Core.List.{List, [], _∷_, _++_}
 use mathlib.Core.Option.{some}
 use lib.Dec.{leb, ltb}
 use lib.ListN.{length, take, drop, getD, getElem?, set, List·getD-append, length-append, length-drop, drop-of-length-le, take-append-drop}
-use lib.Seq.{drop-cons, drop-drop, length-take-le, take-suc-set, getD-append-seam}
+use lib.Seq.{drop-drop, length-take-le, take-suc-set, getD-append-seam}
 use borrow.Author.Tests.{le-leb, lt-leb, leb-true, le-ltb, lt-ltb}
 use Rattle.logic.specs.Limits.{most-words, most-nesting, most-constants, most-constant-words}
 use Rattle.logic.specs.Refusals.{bad-signature}
@@ -27,6 +27,7 @@ use Rattle.logic.proofs.Stopped.{stop}
 use Rattle.logic.proofs.Signatures.{entry-last, extend, empty-signature}
 use Rattle.words.specs.Place.{At}
 use Rattle.words.specs.Typed.{TypeAt}
+use Rattle.words.proofs.Lists.{drop-one}
 use Rattle.rules.specs.Scope.{Declared}
 use Rattle.logic.specs.SignatureList.{at-constant, constant, constants, signature}
 use Rattle.rules.specs.Form.{Front}
@@ -41,10 +42,6 @@ use Rattle.logic.proofs.SignatureList.{constant-right}
 
 -- ---- one constant
 
--- where a word stands at a place, the list goes on with it
-word-there : (sig : List ℕ) (at : ℕ) → at < length sig → drop at sig ≡ getD sig at 0 ∷ drop (at + 1) sig
-word-there sig at l = drop-cons sig at 0 l ∙ ap (λ (i : ℕ). getD sig at 0 ∷ drop i sig) (sym (add-one at))
-
 -- the condition on a constant's type
 abbrev kind-test : Result Checked → Result Term
 kind-test r = r >>= λ c. condition 0 (same (c .type) KindP) >> ok (c .term)
@@ -58,7 +55,7 @@ module _ (Σ : List Term) (sig : List ℕ) (at : ℕ) (l : at < length sig) wher
 
   at-word : constant-at Σ (drop at sig) ≡ (leb 1 n && leb n most-constant-words && leb n (length ws) && passed (constant Σ (take n ws)))
   unfolding constant-at
-  at-word = ap (constant-at Σ) (word-there sig at l)
+  at-word = ap (constant-at Σ) (drop-one sig at l)
 
   pub no-words : n < 1 → false ≡ constant-at Σ (drop at sig)
   no-words h = sym (at-word ∙ ap (λ (b : Bool). b && leb n most-constant-words && leb n (length ws) && passed (constant Σ (take n ws))) (lt-leb 1 n h))
@@ -266,7 +263,7 @@ module _ (sig table : List ℕ) (at count : ℕ) (R : Reading sig table at count
   one-here k = one (R .Σ) (R .constants-are .signature) k at (drop at sig) (omega (arith, R .counted)) fine
 
   first-word : getD (drop at sig) 0 0 ≡ words-there
-  first-word = ap (λ (x : List ℕ). getD x 0 0) (word-there sig at l)
+  first-word = ap (λ (x : List ℕ). getD x 0 0) (drop-one sig at l)
 
   module _ (k : ℕ) (O : One (R .Σ) k at (drop at sig)) where
     rest-words : drop 1 (drop at sig) ≡ drop (at + 1) sig

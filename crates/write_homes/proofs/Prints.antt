@@ -101,7 +101,7 @@ second-refuses (ok hs) (ok t) r = absurd r
 second-refuses (ok hs) (refused m p) r = tt
 second-refuses (refused m p) q r = tt
 
-not-formed : (hs t : List ℕ) → (formed hs t (2 * most-homes) ≡ true → ⊥) → Refuses (write-call hs t (2 * most-homes))
+pub not-formed : (hs t : List ℕ) → (formed hs t (2 * most-homes) ≡ true → ⊥) → Refuses (write-call hs t (2 * most-homes))
 unfolding write-call
 not-formed hs t n = go (formed hs t (2 * most-homes)) n
   where

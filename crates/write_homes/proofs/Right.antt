@@ -16,11 +16,10 @@ use Rattle.decimal.specs.Decimal.{comma, feed}
 use Rattle.number_file.specs.NumberFile.{file, fields, IsFile}
 use Rattle.number_file.proofs.Grammar.{file-right}
 use Rattle.homes.specs.Homes.{most-homes, formed, joined, write-call}
-use Rattle.homes.specs.Right.{InForm}
 use Rattle.homes.proofs.InForm.{in-form}
 use Rattle.write_homes.specs.Printed.{home-line, home-code-line, most-list, most-table, refusal, shown, printed}
 use Rattle.write_homes.specs.Right.{Files, PrintsRight}
-use Rattle.write_homes.proofs.Prints.{Refuses, both, there, shown-refuses, no-list, no-table, long-list, long-table}
+use Rattle.write_homes.proofs.Prints.{Refuses, both, there, not-formed, shown-refuses, no-list, no-table, long-list, long-table}
 
 -- ---- both kinds of file: neither byte that ends a number is a digit
 
@@ -74,12 +73,7 @@ prints-join bs cs hs t f =
     ∙ ap shown (write-ok hs t (in-form hs t (2 * most-homes) .1 (f .form)))
 
 join-refuses : (o q : Result (List ℕ)) → ((hs t : List ℕ) → o ≡ ok hs → q ≡ ok t → formed hs t (2 * most-homes) ≡ true → ⊥) → Refuses (both o q)
-unfolding write-call
-join-refuses (ok hs) (ok t) n = go (formed hs t (2 * most-homes)) (n hs t refl refl)
-  where
-    go : (b : Bool) → (b ≡ true → ⊥) → Refuses (require b out-of-form 0 >> ok (joined hs t))
-    go true n = absurd (n refl)
-    go false n = tt
+join-refuses (ok hs) (ok t) n = not-formed hs t (n hs t refl refl)
 join-refuses (ok hs) (refused m p) n = tt
 join-refuses (refused m p) q n = tt
 
