@@ -26,20 +26,43 @@ enum-known-judged c = search needs
 enum-known-judged-2 : tie.Need-enum-known-judged-2
 enum-known-judged-2 c = search needs
 
+-- ---- places, from a later one back to an earlier one
+
+abbrev before-shared-slice-known : tie.After-shared-slice-known → tie.Start
+before-shared-slice-known c = c .before
+
+abbrev before-judge : tie.After-judge → tie.After-shared-slice-known
+before-judge c = c .before .before .before .before .before
+
+abbrev before-workspace : tie.After-workspace → tie.After-judge
+before-workspace c = c .before
+
 code-requires : tie.Need-code-requires
-code-requires c κs = let s = c .before .before .before .before .before .before .before .before .before .before .before in let j = c .before .before .before .before .before .judge in let H = handed-nothing (called s) _ (j .last .1 .1 .1 .1 .0) (j .result) (j .ensures) _ _ (c .before .judged2 .given .1) in check-fits (lent-here s) (s .args .register .now) (s .args .term .now) (omega (arith, s .good)) (H .number-is) (H .place-is)
+code-requires c κs =
+    let at-judge = c .before .before .before .before .before in
+    let s = before-shared-slice-known (before-judge at-judge) in
+    let j = at-judge .judge in
+    let H = handed-nothing (called s) _ (j .last .1 .1 .1 .1 .0) (j .result) (j .ensures) _ _ (c .before .judged2 .given .1) in
+    check-fits (lent-here s) (s .args .register .now) (s .args .term .now) (omega (arith, s .good)) (H .number-is) (H .place-is)
 
 same-length : tie.Need-same-length
 same-length c = search needs
 
 returns : tie.Need-returns
-returns c = let s = c .before .before .before .before .before .before .before .before .before .before .before in let j = c .before .before .before .before .before .judge in typed-to (called s) _ (j .last .1 .1 .1 .1 .0) (j .result) (j .ensures) _ _ (c .before .judged .given .1)
+returns c =
+    let at-judge = c .before .before .before .before .before in
+    let s = before-shared-slice-known (before-judge at-judge) in
+    let j = at-judge .judge in typed-to (called s) _ (j .last .1 .1 .1 .1 .0) (j .result) (j .ensures) _ _ (c .before .judged .given .1)
 
 same-length-2 : tie.Need-same-length-2
 same-length-2 c = search needs
 
 returns-2 : tie.Need-returns-2
-returns-2 c = let s = c .before .before .before .before .before .before .before .before .before .before .before .before in let j = c .before .before .before .before .before .before .judge in refused-to (called s) _ (j .last .1 .1 .1 .1 .0) (j .result) (j .ensures) _ _ (c .before .before .judged2 .given .1) (c .code .result) (c .code .ensures)
+returns-2 c =
+    let at-judge = before-workspace (c .before .before .before .before .before) in
+    let s = before-shared-slice-known (before-judge at-judge) in
+    let j = at-judge .judge in
+    refused-to (called s) _ (j .last .1 .1 .1 .1 .0) (j .result) (j .ensures) _ _ (c .before .before .judged2 .given .1) (c .code .result) (c .code .ensures)
 
 pub aura0-check-type-spec : {M : Type 1} → statement M
 aura0-check-type-spec =

@@ -27,11 +27,24 @@ enum-told c = search needs
 enum-known-verdict : tie.Need-enum-known-verdict
 enum-known-verdict c = search needs
 
+-- ---- places, from a later one back to an earlier one
+
+abbrev before-slice-known : tie.After-slice-known → tie.Start
+before-slice-known c = c .before .before
+
+abbrev before-open : tie.After-open → tie.After-slice-known
+before-open c = c .before .before .before .before .before
+
+abbrev before-workspace : tie.After-workspace → tie.After-open
+before-workspace c = c .before .before .before
+
 code-requires : tie.Need-code-requires
 code-requires c κs =
-    let s = c .before .before .before .before .before .before .before .before .before .before .before .before .before .before in
-    let v = c .before .before .before .before .before .before .before .«open» in
-    open-fits (lent-here s) (s .args .register .now) (s .args .rules .now) _ _ (omega (arith, s .good)) (fault-told (called s) (v .result) _ _ (v .ensures .answer) (c .before .verdict .given .1))
+    let at-open = before-workspace (c .before .before .before .before) in
+    let s = before-slice-known (before-open at-open) in
+    let v = at-open .«open» in
+    open-fits (lent-here s) (s .args .register .now) (s .args .rules .now) _ _ (omega (arith, s .good))
+    (fault-told (called s) (v .result) _ _ (v .ensures .answer) (c .before .verdict .given .1))
 
 same-length : tie.Need-same-length
 same-length c = search needs
@@ -40,7 +53,11 @@ same-length-2 : tie.Need-same-length-2
 same-length-2 c = search needs
 
 returns : tie.Need-returns
-returns c = let v = c .before .before .before .before .before .before .«open» in record { answer = opened-code (called (c .before .before .before .before .before .before .before .before .before .before .before .before .before)) (v .result) (v .ensures .answer) (c .enum-told .given .1); register = v .ensures .register }
+returns c =
+    let at-open = before-workspace (c .before .before .before) in
+    let at-start = before-slice-known (before-open at-open) in
+    let v = at-open .«open» in
+    record { answer = opened-code (called at-start) (v .result) (v .ensures .answer) (c .enum-told .given .1); register = v .ensures .register }
 
 same-length-3 : tie.Need-same-length-3
 same-length-3 c = search needs
@@ -50,9 +67,14 @@ same-length-4 c = search needs
 
 returns-2 : tie.Need-returns-2
 returns-2 c =
-    let s = c .before .before .before .before .before .before .before .before .before .before .before .before .before .before .before in
-    let v = c .before .before .before .before .before .before .before .before .«open» in
-    record { answer = refused-code (called s) _ _ (c .code .result) (fault-told (called s) (v .result) _ _ (v .ensures .answer) (c .before .before .verdict .given .1)) (c .code .ensures); register = v .ensures .register }
+    let at-open = before-workspace (c .before .before .before .before .before) in
+    let s = before-slice-known (before-open at-open) in
+    let v = at-open .«open» in
+    record {
+      answer = refused-code (called s) _ _ (c .code .result)
+          (fault-told (called s) (v .result) _ _ (v .ensures .answer) (c .before .before .verdict .given .1)) (c .code .ensures);
+      register = v .ensures .register;
+    }
 
 pub aura0-open-spec : {M : Type 1} → statement M
 aura0-open-spec =

@@ -24,12 +24,25 @@ enum-told c = search needs
 enum-known-verdict : tie.Need-enum-known-verdict
 enum-known-verdict c = search needs
 
+-- ---- places, from a later one back to an earlier one
+
+abbrev before-slice-known : tie.After-slice-known → tie.Start
+before-slice-known c = c .before .before
+
+abbrev before-request : tie.After-request → tie.After-slice-known
+before-request c = c .before .before .before .before .before
+
+abbrev before-workspace : tie.After-workspace → tie.After-request
+before-workspace c = c .before .before .before
+
 code-requires : tie.Need-code-requires
 code-requires c κs =
-    let s = c .before .before .before .before .before .before .before .before .before .before .before .before .before .before in
+    let at-request = before-workspace (c .before .before .before .before) in
+    let s = before-slice-known (before-request at-request) in
     let a = s .args in
-    let v = c .before .before .before .before .before .before .before .request in
-    request-fits (lent-here s) (a .register .now) (a .operation) (a .extract) (a .delivery) (a .proof .now) _ _ (omega (arith, s .good)) (not-granted (called s) (v .result) (v .ensures .answer) _ _ (c .before .verdict .given .1))
+    let v = at-request .request in
+    request-fits (lent-here s) (a .register .now) (a .operation) (a .extract) (a .delivery) (a .proof .now) _ _ (omega (arith, s .good))
+    (not-granted (called s) (v .result) (v .ensures .answer) _ _ (c .before .verdict .given .1))
 
 same-length : tie.Need-same-length
 same-length c = search needs
@@ -38,7 +51,11 @@ same-length-2 : tie.Need-same-length-2
 same-length-2 c = search needs
 
 returns : tie.Need-returns
-returns c = let v = c .before .before .before .before .before .before .request in record { answer = granted-code (called (c .before .before .before .before .before .before .before .before .before .before .before .before .before)) (v .result) (v .ensures .answer) (c .enum-told .given .1); register = v .ensures .register }
+returns c =
+    let at-request = before-workspace (c .before .before .before) in
+    let at-start = before-slice-known (before-request at-request) in
+    let v = at-request .request in
+    record { answer = granted-code (called at-start) (v .result) (v .ensures .answer) (c .enum-told .given .1); register = v .ensures .register }
 
 same-length-3 : tie.Need-same-length-3
 same-length-3 c = search needs
@@ -48,9 +65,14 @@ same-length-4 c = search needs
 
 returns-2 : tie.Need-returns-2
 returns-2 c =
-    let s = c .before .before .before .before .before .before .before .before .before .before .before .before .before .before .before in
-    let v = c .before .before .before .before .before .before .before .before .request in
-    record { answer = refused-code (called s) _ _ (c .code .result) (not-granted (called s) (v .result) (v .ensures .answer) _ _ (c .before .before .verdict .given .1)) (c .code .ensures); register = v .ensures .register }
+    let at-request = before-workspace (c .before .before .before .before .before) in
+    let s = before-slice-known (before-request at-request) in
+    let v = at-request .request in
+    record {
+      answer = refused-code (called s) _ _ (c .code .result)
+          (not-granted (called s) (v .result) (v .ensures .answer) _ _ (c .before .before .verdict .given .1)) (c .code .ensures);
+      register = v .ensures .register;
+    }
 
 pub aura0-request-spec : {M : Type 1} → statement M
 aura0-request-spec =

@@ -28,8 +28,26 @@ enum-told-2 c = search needs
 enum-known-said : tie.Need-enum-known-said
 enum-known-said c = search needs
 
+-- ---- places, from a later one back to an earlier one
+
+abbrev before-slice-known : tie.After-slice-known → tie.Start
+before-slice-known c = c .before .before
+
+abbrev before-say : tie.After-say → tie.After-slice-known
+before-say c = c .before .before .before .before .before
+
+abbrev before-workspace : tie.After-workspace → tie.After-say
+before-workspace c = c .before .before .before
+
 code-requires : tie.Need-code-requires
-code-requires c κs = let s = c .before .before .before .before .before .before .before .before .before .before .before .before .before .before in let a = s .args in let v = c .before .before .before .before .before .before .before .say in say-fits (lent-here s) (a .register .now) (a .principal) (a .proposition .now) _ _ (omega (arith, s .good)) (unsaid-is (called s) (a .register .now) (a .principal) (a .proposition .now) (v .last .1 .1 .0) (v .result) (v .ensures) _ _ (c .before .said .given .1))
+code-requires c κs =
+    let at-say = before-workspace (c .before .before .before .before) in
+    let s = before-slice-known (before-say at-say) in
+    let a = s .args in
+    let v = at-say .say in
+    say-fits (lent-here s) (a .register .now) (a .principal) (a .proposition .now) _ _ (omega (arith, s .good))
+    (unsaid-is (called s) (a .register .now) (a .principal) (a .proposition .now) (v .last .1 .1 .0) (v .result) (v .ensures) _ _
+    (c .before .said .given .1))
 
 same-length : tie.Need-same-length
 same-length c = search needs
@@ -38,7 +56,12 @@ same-length-2 : tie.Need-same-length-2
 same-length-2 c = search needs
 
 returns : tie.Need-returns
-returns c = let s = c .before .before .before .before .before .before .before .before .before .before .before .before .before in let a = s .args in let v = c .before .before .before .before .before .before .say in said-added (called s) (a .register .now) (a .principal) (a .proposition .now) (v .last .1 .1 .0) (v .result) (v .ensures) (c .enum-told .given .1)
+returns c =
+    let at-say = before-workspace (c .before .before .before) in
+    let s = before-slice-known (before-say at-say) in
+    let a = s .args in
+    let v = at-say .say in
+    said-added (called s) (a .register .now) (a .principal) (a .proposition .now) (v .last .1 .1 .0) (v .result) (v .ensures) (c .enum-told .given .1)
 
 same-length-3 : tie.Need-same-length-3
 same-length-3 c = search needs
@@ -47,7 +70,12 @@ same-length-4 : tie.Need-same-length-4
 same-length-4 c = search needs
 
 returns-2 : tie.Need-returns-2
-returns-2 c = let s = c .before .before .before .before .before .before .before .before .before .before .before .before .before in let a = s .args in let v = c .before .before .before .before .before .before .say in said-held (called s) (a .register .now) (a .principal) (a .proposition .now) (v .last .1 .1 .0) (v .result) (v .ensures) (c .enum-told2 .given .1)
+returns-2 c =
+    let at-say = before-workspace (c .before .before .before) in
+    let s = before-slice-known (before-say at-say) in
+    let a = s .args in
+    let v = at-say .say in
+    said-held (called s) (a .register .now) (a .principal) (a .proposition .now) (v .last .1 .1 .0) (v .result) (v .ensures) (c .enum-told2 .given .1)
 
 same-length-5 : tie.Need-same-length-5
 same-length-5 c = search needs
@@ -56,7 +84,13 @@ same-length-6 : tie.Need-same-length-6
 same-length-6 c = search needs
 
 returns-3 : tie.Need-returns-3
-returns-3 c = let s = c .before .before .before .before .before .before .before .before .before .before .before .before .before .before .before in let a = s .args in let v = c .before .before .before .before .before .before .before .before .say in said-nothing (called s) (a .register .now) (a .principal) (a .proposition .now) (v .last .1 .1 .0) (v .result) (v .ensures) _ _ (c .before .before .said .given .1) (c .code .result) (c .code .ensures)
+returns-3 c =
+    let at-say = before-workspace (c .before .before .before .before .before) in
+    let s = before-slice-known (before-say at-say) in
+    let a = s .args in
+    let v = at-say .say in
+    said-nothing (called s) (a .register .now) (a .principal) (a .proposition .now) (v .last .1 .1 .0) (v .result) (v .ensures) _ _
+    (c .before .before .said .given .1) (c .code .result) (c .code .ensures)
 
 pub aura0-say-spec : {M : Type 1} → statement M
 aura0-say-spec =

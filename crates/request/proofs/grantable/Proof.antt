@@ -21,9 +21,49 @@ use Rattle.typing.proofs.check.check_term.Reads as check-term-reads
 abbrev lent-here : tie.Start → Lent
 lent-here s = lent-of (s .args .sig .now) (s .args .n) (length (s .args .ws .now))
 
+-- ---- places, from a later one back to an earlier one
+
+abbrev before-table : tie.After-table → tie.Start
+before-table c = c .before .before .before .before .before
+
+abbrev before-prepare : tie.After-prepare → tie.After-table
+before-prepare c = c .before .before
+
+abbrev before-table2 : tie.After-table2 → tie.After-prepare
+before-table2 c = c .before
+
+abbrev before-ready2 : tie.After-ready2 → tie.After-prepare
+before-ready2 c = c .before .before .before .before .before
+
+abbrev before-numbers : tie.After-numbers → tie.After-ready2
+before-numbers c = c .before .before
+
+abbrev before-else1 : tie.Else1 → tie.After-numbers
+before-else1 c = c .before
+
+abbrev before-check-term : tie.After-check-term → tie.Else1
+before-check-term c = c .before .before .before
+
+abbrev before-ws2 : tie.After-ws2 → tie.After-check-term
+before-ws2 c = c .before
+
+abbrev before-match2-keys2 : tie.At-match2-keys2 → tie.After-check-term
+before-match2-keys2 c = c .before .before .before
+
 -- the shared tests passed
-passed : (c : tie.After-ready2) → Passed-so (lent-here (c .before .before .before .before .before .before .before .before .before .before .before .before)) (c .before .before .before .before .before .before .before .before .before .before .before .before .args .register .now) (c .before .before .before .before .before .prepare .last .1 .1 .1 .0) (c .before .before .before .before .before .prepare .result) (request-own (c .before .before .before .before .before .before .before .before .before .before .before .before .args .operation) (c .before .before .before .before .before .before .before .before .before .before .before .before .args .extract) (c .before .before .before .before .before .before .before .before .before .before .before .before .args .delivery) (c .before .before .before .before .before .before .before .before .before .before .before .before .args .proof .now)) (c .before .before .before .before .before .prepare .ensures) (c .ready2 .given .0 .0)
-passed c = passed-so (lent-here (c .before .before .before .before .before .before .before .before .before .before .before .before)) (c .before .before .before .before .before .before .before .before .before .before .before .before .args .register .now) (c .before .before .before .before .before .prepare .last .1 .1 .1 .0) (c .before .before .before .before .before .prepare .result) (request-own (c .before .before .before .before .before .before .before .before .before .before .before .before .args .operation) (c .before .before .before .before .before .before .before .before .before .before .before .before .args .extract) (c .before .before .before .before .before .before .before .before .before .before .before .before .args .delivery) (c .before .before .before .before .before .before .before .before .before .before .before .before .args .proof .now)) (c .before .before .before .before .before .prepare .ensures) (c .ready2 .given .0 .0) (c .ready2 .given .1)
+passed : (c : tie.After-ready2) →
+    let at-prepare = before-ready2 c in
+    let at-start = before-table (before-prepare at-prepare) in
+    let a = at-start .args in
+    Passed-so (lent-here at-start) (a .register .now) (at-prepare .prepare .last .1 .1 .1 .0) (at-prepare .prepare .result)
+    (request-own (a .operation) (a .extract) (a .delivery) (a .proof .now)) (at-prepare .prepare .ensures) (c .ready2 .given .0 .0)
+passed c =
+    let at-prepare = before-ready2 c in
+    let at-start = before-table (before-prepare at-prepare) in
+    let a = at-start .args in
+    passed-so (lent-here at-start) (a .register .now) (at-prepare .prepare .last .1 .1 .1 .0) (at-prepare .prepare .result)
+    (request-own (a .operation) (a .extract) (a .delivery) (a .proof .now)) (at-prepare .prepare .ensures) (c .ready2 .given .0 .0)
+    (c .ready2 .given .1)
 
 slice-aggregate-prepare : tie.Need-slice-aggregate-prepare
 slice-aggregate-prepare c = search needs
@@ -44,16 +84,47 @@ same-length : tie.Need-same-length
 same-length c = search needs
 
 returns : tie.Need-returns
-returns c = let S = passed (c .before .before .before) in bad-numbers (lent-here (c .before .before .before .before .before .before .before .before .before .before .before .before .before .before .before)) (c .before .before .before .before .before .before .before .before .before .before .before .before .before .before .before .args .register .now) (c .before .before .before .before .before .before .before .before .prepare .last .1 .1 .1 .0) (c .before .before .before .before .before .before .before .before .before .before .before .before .before .before .before .args .proof .now) (c .before .before .before .before .before .before .before .before .before .before .before .before .before .before .before .args .operation) (c .before .before .before .before .before .before .before .before .before .before .before .before .before .before .before .args .extract) (c .before .before .before .before .before .before .before .before .before .before .before .before .before .before .before .args .delivery) (c .before .before .before .before .before .before .before .before .prepare .result) (c .before .before .before .before .before .before .before .before .prepare .ensures) (c .before .before .before .ready2 .given .0 .0) (passed (c .before .before .before)) (c .before .numbers .result) (c .before .numbers .ensures) (not-true _ (c .if1 .taken))
+returns c =
+    let at-numbers = c .before in
+    let at-ready2 = before-numbers at-numbers in
+    let at-prepare = before-ready2 at-ready2 in
+    let at-start = before-table (before-prepare at-prepare) in
+    let a = at-start .args in
+    let S = passed at-ready2 in
+    bad-numbers (lent-here at-start) (a .register .now) (at-prepare .prepare .last .1 .1 .1 .0) (a .proof .now) (a .operation) (a .extract)
+    (a .delivery) (at-prepare .prepare .result) (at-prepare .prepare .ensures) (at-ready2 .ready2 .given .0 .0) (passed at-ready2)
+    (at-numbers .numbers .result) (at-numbers .numbers .ensures) (not-true _ (c .if1 .taken))
 
 array-share-prefix-table : tie.Need-array-share-prefix-table
-array-share-prefix-table c = let S = passed (c .before .before .before) in table-within (lent-here (c .before .before .before .before .before .before .before .before .before .before .before .before .before .before .before)) (c .before .before .before .before .before .before .before .before .prepare .last .1 .1 .1 .0) (c .before .before .before .ready2 .given .0 .0) (S .Σ) (S .counted) (S .constants)
+array-share-prefix-table c =
+    let at-ready2 = before-numbers (before-else1 c) in
+    let at-prepare = before-ready2 at-ready2 in
+    let at-start = before-table (before-prepare at-prepare) in
+    let S = passed at-ready2 in
+    table-within (lent-here at-start) (at-prepare .prepare .last .1 .1 .1 .0) (at-ready2 .ready2 .given .0 .0) (S .Σ) (S .counted) (S .constants)
 
 slice-aggregate-check-term : tie.Need-slice-aggregate-check-term
-slice-aggregate-check-term c = let S = passed (c .before .before .before .before) in sym (length-take-le (c .before .before .before .before .ready2 .given .0 .0) (c .before .before .before .before .before .before .before .before .before .prepare .last .1 .1 .1 .0) (table-within (lent-here (c .before .before .before .before .before .before .before .before .before .before .before .before .before .before .before .before)) (c .before .before .before .before .before .before .before .before .before .prepare .last .1 .1 .1 .0) (c .before .before .before .before .ready2 .given .0 .0) (S .Σ) (S .counted) (S .constants)))
+slice-aggregate-check-term c =
+    let at-ready2 = before-numbers (before-else1 (c .before)) in
+    let at-prepare = before-ready2 at-ready2 in
+    let at-start = before-table (before-prepare at-prepare) in
+    let S = passed at-ready2 in
+    sym
+    (length-take-le (at-ready2 .ready2 .given .0 .0) (at-prepare .prepare .last .1 .1 .1 .0)
+    (table-within (lent-here at-start) (at-prepare .prepare .last .1 .1 .1 .0) (at-ready2 .ready2 .given .0 .0) (S .Σ) (S .counted) (S .constants)))
 
 check-term-requires : tie.Need-check-term-requires
-check-term-requires c κs = let S = passed (c .before .before .before .before .before) in record { Σ = S .Σ; constants = S .constants; workspace = omega (arith, S .lent-so .workspace, c .before .before .before .before .before .before .before .before .before .before .prepare .kept .1 .1 .1 .1 .0); words = omega arith; nesting = omega arith }
+check-term-requires c κs =
+    let at-ready2 = before-numbers (before-else1 (c .before .before)) in
+    let at-prepare = before-ready2 at-ready2 in
+    let S = passed at-ready2 in
+    record {
+      Σ = S .Σ;
+      constants = S .constants;
+      workspace = omega (arith, S .lent-so .workspace, at-prepare .prepare .kept .1 .1 .1 .1 .0);
+      words = omega arith;
+      nesting = omega arith;
+    }
 
 enum-known-typed : tie.Need-enum-known-typed
 enum-known-typed c = search needs
@@ -62,25 +133,96 @@ enum-known-typed-2 : tie.Need-enum-known-typed-2
 enum-known-typed-2 c = search needs
 
 proves-requires : tie.Need-proves-requires
-proves-requires c κs = let S = passed (c .before .before .before .before .before .before .before .before .before .before .before .before) in let N = in-range-numbers (lent-here (c .before .before .before .before .before .before .before .before .before .before .before .before .before .before .before .before .before .before .before .before .before .before .before .before)) (c .before .before .before .before .before .before .before .before .before .before .before .before .before .before .before .before .before .before .before .before .before .before .before .before .args .register .now) (c .before .before .before .before .before .before .before .before .before .before .before .before .before .before .before .before .before .prepare .last .1 .1 .1 .0) (c .before .before .before .before .before .before .before .before .before .before .before .before .before .before .before .before .before .before .before .before .before .before .before .before .args .proof .now) (c .before .before .before .before .before .before .before .before .before .before .before .before .before .before .before .before .before .before .before .before .before .before .before .before .args .operation) (c .before .before .before .before .before .before .before .before .before .before .before .before .before .before .before .before .before .before .before .before .before .before .before .before .args .extract) (c .before .before .before .before .before .before .before .before .before .before .before .before .before .before .before .before .before .before .before .before .before .before .before .before .args .delivery) (c .before .before .before .before .before .before .before .before .before .before .before .before .before .before .before .before .before .prepare .result) (c .before .before .before .before .before .before .before .before .before .before .before .before .before .before .before .before .before .prepare .ensures) (c .before .before .before .before .before .before .before .before .before .before .before .before .ready2 .given .0 .0) (passed (c .before .before .before .before .before .before .before .before .before .before .before .before)) (c .before .before .before .before .before .before .before .before .before .before .numbers .result) (c .before .before .before .before .before .before .before .before .before .before .numbers .ensures) (not-false _ (c .before .before .before .before .before .before .before .before .before .if1 .left)) in let T = term-here (lent-here (c .before .before .before .before .before .before .before .before .before .before .before .before .before .before .before .before .before .before .before .before .before .before .before .before)) (c .before .before .before .before .before .before .before .before .before .before .before .before .before .before .before .before .before .before .before .before .before .before .before .before .args .register .now) (c .before .before .before .before .before .before .before .before .before .before .before .before .before .before .before .before .before .prepare .last .1 .1 .1 .0) (c .before .before .before .before .before .before .before .before .before .before .before .before .before .before .before .before .before .before .before .before .before .before .before .before .args .proof .now) (c .before .before .before .before .before .before .before .before .before .before .before .before .before .before .before .before .before .before .before .before .before .before .before .before .args .operation) (c .before .before .before .before .before .before .before .before .before .before .before .before .before .before .before .before .before .before .before .before .before .before .before .before .args .extract) (c .before .before .before .before .before .before .before .before .before .before .before .before .before .before .before .before .before .before .before .before .before .before .before .before .args .delivery) (c .before .before .before .before .before .before .before .before .before .before .before .before .before .before .before .before .before .prepare .result) (c .before .before .before .before .before .before .before .before .before .before .before .before .before .before .before .before .before .prepare .ensures) (c .before .before .before .before .before .before .before .before .before .before .before .before .ready2 .given .0 .0) (passed (c .before .before .before .before .before .before .before .before .before .before .before .before)) (c .before .before .before .before .before .before .before .before .before .before .numbers .result) (c .before .before .before .before .before .before .before .before .before .before .numbers .ensures) (not-false _ (c .before .before .before .before .before .before .before .before .before .if1 .left)) (c .before .before .before .before .before .before .check-term .last .1 .1 .1 .1 .1 .0) (c .before .before .before .before .before .before .check-term .result) _ _ (c .before .before .before .before .before .before .check-term .ensures (S .Σ) (S .constants)) (c .before .before .typed2 .given .1) in record { rs = S .rs; reads = S .reads; term = T .term; is = T .term-is; operation = omega (arith, N .0, S .lent-so .operations); extract = N .1; inside = words-inside (lent-here (c .before .before .before .before .before .before .before .before .before .before .before .before .before .before .before .before .before .before .before .before .before .before .before .before)) (c .before .before .before .before .before .before .before .before .before .before .before .before .before .before .before .before .before .before .before .before .before .before .before .before .args .register .now) (c .before .before .before .before .before .before .before .before .before .before .before .before .before .before .before .before .before .prepare .last .1 .1 .1 .0) (c .before .before .before .before .before .before .before .before .before .before .before .before .before .before .before .before .before .before .before .before .before .before .before .before .args .proof .now) (c .before .before .before .before .before .before .before .before .before .before .before .before .before .before .before .before .before .before .before .before .before .before .before .before .args .operation) (c .before .before .before .before .before .before .before .before .before .before .before .before .before .before .before .before .before .before .before .before .before .before .before .before .args .extract) (c .before .before .before .before .before .before .before .before .before .before .before .before .before .before .before .before .before .before .before .before .before .before .before .before .args .delivery) (c .before .before .before .before .before .before .before .before .before .before .before .before .before .before .before .before .before .prepare .result) (c .before .before .before .before .before .before .before .before .before .before .before .before .before .before .before .before .before .prepare .ensures) (c .before .before .before .before .before .before .before .before .before .before .before .before .ready2 .given .0 .0) (passed (c .before .before .before .before .before .before .before .before .before .before .before .before)) (c .before .before .before .before .before .before .before .before .before .before .numbers .result) (c .before .before .before .before .before .before .before .before .before .before .numbers .ensures) (not-false _ (c .before .before .before .before .before .before .before .before .before .if1 .left)) (c .before .before .before .before .before .before .check-term .last .1 .1 .1 .1 .1 .0) (c .before .before .before .before .before .before .check-term .result) _ _ (c .before .before .before .before .before .before .check-term .ensures (S .Σ) (S .constants)) (c .before .before .typed2 .given .1); short = T .short }
+proves-requires c κs =
+    let at-check-term = before-ws2 (c .before .before .before .before .before) in
+    let at-else1 = before-check-term at-check-term in
+    let at-numbers = before-else1 at-else1 in
+    let at-ready2 = before-numbers at-numbers in
+    let at-prepare = before-ready2 at-ready2 in
+    let at-start = before-table (before-prepare at-prepare) in
+    let a = at-start .args in
+    let S = passed at-ready2 in
+    let N = in-range-numbers (lent-here at-start) (a .register .now) (at-prepare .prepare .last .1 .1 .1 .0) (a .proof .now) (a .operation)
+    (a .extract) (a .delivery) (at-prepare .prepare .result) (at-prepare .prepare .ensures) (at-ready2 .ready2 .given .0 .0) (passed at-ready2)
+    (at-numbers .numbers .result) (at-numbers .numbers .ensures) (not-false _ (at-else1 .if1 .left)) in
+    let T = term-here (lent-here at-start) (a .register .now) (at-prepare .prepare .last .1 .1 .1 .0) (a .proof .now) (a .operation) (a .extract)
+    (a .delivery) (at-prepare .prepare .result) (at-prepare .prepare .ensures) (at-ready2 .ready2 .given .0 .0) (passed at-ready2)
+    (at-numbers .numbers .result) (at-numbers .numbers .ensures) (not-false _ (at-else1 .if1 .left))
+    (at-check-term .check-term .last .1 .1 .1 .1 .1 .0) (at-check-term .check-term .result) _ _
+    (at-check-term .check-term .ensures (S .Σ) (S .constants)) (c .before .before .typed2 .given .1) in
+    record {
+      rs = S .rs;
+      reads = S .reads;
+      term = T .term;
+      is = T .term-is;
+      operation = omega (arith, N .0, S .lent-so .operations);
+      extract = N .1;
+      inside = words-inside (lent-here at-start) (a .register .now) (at-prepare .prepare .last .1 .1 .1 .0) (a .proof .now) (a .operation)
+          (a .extract) (a .delivery) (at-prepare .prepare .result) (at-prepare .prepare .ensures) (at-ready2 .ready2 .given .0 .0) (passed at-ready2)
+          (at-numbers .numbers .result) (at-numbers .numbers .ensures) (not-false _ (at-else1 .if1 .left))
+          (at-check-term .check-term .last .1 .1 .1 .1 .1 .0) (at-check-term .check-term .result) _ _
+          (at-check-term .check-term .ensures (S .Σ) (S .constants)) (c .before .before .typed2 .given .1);
+      short = T .short;
+    }
 
 same-length-2 : tie.Need-same-length-2
 same-length-2 c = search needs
 
 returns-2 : tie.Need-returns-2
-returns-2 c = request-not-prepared (lent-here (c .before .before .before .before .before .before .before .before .before .before .before .before .before)) (c .before .before .before .before .before .before .before .before .before .before .before .before .before .args .register .now) (c .before .before .before .before .before .before .prepare .last .1 .1 .1 .0) (c .before .before .before .before .before .before .before .before .before .before .before .before .before .args .proof .now) (c .before .before .before .before .before .before .before .before .before .before .before .before .before .args .operation) (c .before .before .before .before .before .before .before .before .before .before .before .before .before .args .extract) (c .before .before .before .before .before .before .before .before .before .before .before .before .before .args .delivery) (c .before .before .before .before .before .before .prepare .result) (c .before .before .before .before .before .before .prepare .ensures) _ _ (c .before .ready .given .1)
+returns-2 c =
+    let at-prepare = before-table2 (c .before .before .before .before .before) in
+    let at-start = before-table (before-prepare at-prepare) in
+    let a = at-start .args in
+    request-not-prepared (lent-here at-start) (a .register .now) (at-prepare .prepare .last .1 .1 .1 .0) (a .proof .now) (a .operation) (a .extract)
+    (a .delivery) (at-prepare .prepare .result) (at-prepare .prepare .ensures) _ _ (c .before .ready .given .1)
 
 same-length-3 : tie.Need-same-length-3
 same-length-3 c = search needs
 
 returns-3 : tie.Need-returns-3
-returns-3 c = let S = passed (c .before .before .before .before .before .before .before .before .before .before .before) in not-typed (lent-here (c .before .before .before .before .before .before .before .before .before .before .before .before .before .before .before .before .before .before .before .before .before .before .before)) (c .before .before .before .before .before .before .before .before .before .before .before .before .before .before .before .before .before .before .before .before .before .before .before .args .register .now) (c .before .before .before .before .before .before .before .before .before .before .before .before .before .before .before .before .prepare .last .1 .1 .1 .0) (c .before .before .before .before .before .before .before .before .before .before .before .before .before .before .before .before .before .before .before .before .before .before .before .args .proof .now) (c .before .before .before .before .before .before .before .before .before .before .before .before .before .before .before .before .before .before .before .before .before .before .before .args .operation) (c .before .before .before .before .before .before .before .before .before .before .before .before .before .before .before .before .before .before .before .before .before .before .before .args .extract) (c .before .before .before .before .before .before .before .before .before .before .before .before .before .before .before .before .before .before .before .before .before .before .before .args .delivery) (c .before .before .before .before .before .before .before .before .before .before .before .before .before .before .before .before .prepare .result) (c .before .before .before .before .before .before .before .before .before .before .before .before .before .before .before .before .prepare .ensures) (c .before .before .before .before .before .before .before .before .before .before .before .ready2 .given .0 .0) (passed (c .before .before .before .before .before .before .before .before .before .before .before)) (c .before .before .before .before .before .before .before .before .before .numbers .result) (c .before .before .before .before .before .before .before .before .before .numbers .ensures) (not-false _ (c .before .before .before .before .before .before .before .before .if1 .left)) _ (c .before .before .before .before .before .check-term .result) _ _ (c .before .before .before .before .before .check-term .ensures (S .Σ) (S .constants)) (c .before .typed .given .1)
+returns-3 c =
+    let at-check-term = c .before .before .before .before .before in
+    let at-else1 = before-check-term at-check-term in
+    let at-numbers = before-else1 at-else1 in
+    let at-ready2 = before-numbers at-numbers in
+    let at-prepare = before-ready2 at-ready2 in
+    let at-start = before-table (before-prepare at-prepare) in
+    let a = at-start .args in
+    let S = passed at-ready2 in
+    not-typed (lent-here at-start) (a .register .now) (at-prepare .prepare .last .1 .1 .1 .0) (a .proof .now) (a .operation) (a .extract)
+    (a .delivery) (at-prepare .prepare .result) (at-prepare .prepare .ensures) (at-ready2 .ready2 .given .0 .0) (passed at-ready2)
+    (at-numbers .numbers .result) (at-numbers .numbers .ensures) (not-false _ (at-else1 .if1 .left)) _ (at-check-term .check-term .result) _ _
+    (at-check-term .check-term .ensures (S .Σ) (S .constants)) (c .before .typed .given .1)
 
 same-length-4 : tie.Need-same-length-4
 same-length-4 c = search needs
 
 returns-4 : tie.Need-returns-4
-returns-4 c = let S = passed (c .before .before .before .before .before .before .before .before .before .before .before .before .before) in let A = type-here (lent-here (c .before .before .before .before .before .before .before .before .before .before .before .before .before .before .before .before .before .before .before .before .before .before .before .before .before)) (c .before .before .before .before .before .before .before .before .before .before .before .before .before .before .before .before .before .before .before .before .before .before .before .before .before .args .register .now) (c .before .before .before .before .before .before .before .before .before .before .before .before .before .before .before .before .before .before .prepare .last .1 .1 .1 .0) (c .before .before .before .before .before .before .before .before .before .before .before .before .before .before .before .before .before .before .before .before .before .before .before .before .before .args .proof .now) (c .before .before .before .before .before .before .before .before .before .before .before .before .before .before .before .before .before .before .before .before .before .before .before .before .before .args .operation) (c .before .before .before .before .before .before .before .before .before .before .before .before .before .before .before .before .before .before .before .before .before .before .before .before .before .args .extract) (c .before .before .before .before .before .before .before .before .before .before .before .before .before .before .before .before .before .before .before .before .before .before .before .before .before .args .delivery) (c .before .before .before .before .before .before .before .before .before .before .before .before .before .before .before .before .before .before .prepare .result) (c .before .before .before .before .before .before .before .before .before .before .before .before .before .before .before .before .before .before .prepare .ensures) (c .before .before .before .before .before .before .before .before .before .before .before .before .before .ready2 .given .0 .0) (passed (c .before .before .before .before .before .before .before .before .before .before .before .before .before)) (c .before .before .before .before .before .before .before .before .before .before .before .numbers .result) (c .before .before .before .before .before .before .before .before .before .before .before .numbers .ensures) (not-false _ (c .before .before .before .before .before .before .before .before .before .before .if1 .left)) (c .before .before .before .before .before .before .before .check-term .last .1 .1 .1 .1 .1 .0) (c .before .before .before .before .before .before .before .check-term .result) _ _ (c .before .before .before .before .before .before .before .check-term .ensures (S .Σ) (S .constants)) (c .before .before .before .typed2 .given .1) in let T = term-here (lent-here (c .before .before .before .before .before .before .before .before .before .before .before .before .before .before .before .before .before .before .before .before .before .before .before .before .before)) (c .before .before .before .before .before .before .before .before .before .before .before .before .before .before .before .before .before .before .before .before .before .before .before .before .before .args .register .now) (c .before .before .before .before .before .before .before .before .before .before .before .before .before .before .before .before .before .before .prepare .last .1 .1 .1 .0) (c .before .before .before .before .before .before .before .before .before .before .before .before .before .before .before .before .before .before .before .before .before .before .before .before .before .args .proof .now) (c .before .before .before .before .before .before .before .before .before .before .before .before .before .before .before .before .before .before .before .before .before .before .before .before .before .args .operation) (c .before .before .before .before .before .before .before .before .before .before .before .before .before .before .before .before .before .before .before .before .before .before .before .before .before .args .extract) (c .before .before .before .before .before .before .before .before .before .before .before .before .before .before .before .before .before .before .before .before .before .before .before .before .before .args .delivery) (c .before .before .before .before .before .before .before .before .before .before .before .before .before .before .before .before .before .before .prepare .result) (c .before .before .before .before .before .before .before .before .before .before .before .before .before .before .before .before .before .before .prepare .ensures) (c .before .before .before .before .before .before .before .before .before .before .before .before .before .ready2 .given .0 .0) (passed (c .before .before .before .before .before .before .before .before .before .before .before .before .before)) (c .before .before .before .before .before .before .before .before .before .before .before .numbers .result) (c .before .before .before .before .before .before .before .before .before .before .before .numbers .ensures) (not-false _ (c .before .before .before .before .before .before .before .before .before .before .if1 .left)) (c .before .before .before .before .before .before .before .check-term .last .1 .1 .1 .1 .1 .0) (c .before .before .before .before .before .before .before .check-term .result) _ _ (c .before .before .before .before .before .before .before .check-term .ensures (S .Σ) (S .constants)) (c .before .before .before .typed2 .given .1) in proved (lent-here (c .before .before .before .before .before .before .before .before .before .before .before .before .before .before .before .before .before .before .before .before .before .before .before .before .before)) (c .before .before .before .before .before .before .before .before .before .before .before .before .before .before .before .before .before .before .before .before .before .before .before .before .before .args .register .now) (c .before .before .before .before .before .before .before .before .before .before .before .before .before .before .before .before .before .before .prepare .last .1 .1 .1 .0) (c .before .before .before .before .before .before .before .before .before .before .before .before .before .before .before .before .before .before .before .before .before .before .before .before .before .args .proof .now) (c .before .before .before .before .before .before .before .before .before .before .before .before .before .before .before .before .before .before .before .before .before .before .before .before .before .args .operation) (c .before .before .before .before .before .before .before .before .before .before .before .before .before .before .before .before .before .before .before .before .before .before .before .before .before .args .extract) (c .before .before .before .before .before .before .before .before .before .before .before .before .before .before .before .before .before .before .before .before .before .before .before .before .before .args .delivery) (c .before .before .before .before .before .before .before .before .before .before .before .before .before .before .before .before .before .before .prepare .result) (c .before .before .before .before .before .before .before .before .before .before .before .before .before .before .before .before .before .before .prepare .ensures) (c .before .before .before .before .before .before .before .before .before .before .before .before .before .ready2 .given .0 .0) (passed (c .before .before .before .before .before .before .before .before .before .before .before .before .before)) (c .before .before .before .before .before .before .before .before .before .before .before .numbers .result) (c .before .before .before .before .before .before .before .before .before .before .before .numbers .ensures) (not-false _ (c .before .before .before .before .before .before .before .before .before .before .if1 .left)) (c .before .before .before .before .before .before .before .check-term .last .1 .1 .1 .1 .1 .0) (c .before .before .before .before .before .before .before .check-term .result) _ _ (c .before .before .before .before .before .before .before .check-term .ensures (S .Σ) (S .constants)) (c .before .before .before .typed2 .given .1) (c .proves .result) (c .proves .ensures (lent-here (c .before .before .before .before .before .before .before .before .before .before .before .before .before .before .before .before .before .before .before .before .before .before .before .before .before)) (S .Σ) (S .rs) (c .before .before .before .before .before .before .before .before .before .before .before .before .before .before .before .before .before .before .before .before .before .before .before .before .before .args .delivery) (T .term) (A .type) (S .reads) (T .term-is) (A .front) (A .words-are))
+returns-4 c =
+    let at-check-term = before-match2-keys2 (c .before .before .before .before) in
+    let at-else1 = before-check-term at-check-term in
+    let at-numbers = before-else1 at-else1 in
+    let at-ready2 = before-numbers at-numbers in
+    let at-prepare = before-ready2 at-ready2 in
+    let at-start = before-table (before-prepare at-prepare) in
+    let a = at-start .args in
+    let S = passed at-ready2 in
+    let A = type-here (lent-here at-start) (a .register .now) (at-prepare .prepare .last .1 .1 .1 .0) (a .proof .now) (a .operation) (a .extract)
+    (a .delivery) (at-prepare .prepare .result) (at-prepare .prepare .ensures) (at-ready2 .ready2 .given .0 .0) (passed at-ready2)
+    (at-numbers .numbers .result) (at-numbers .numbers .ensures) (not-false _ (at-else1 .if1 .left))
+    (at-check-term .check-term .last .1 .1 .1 .1 .1 .0) (at-check-term .check-term .result) _ _
+    (at-check-term .check-term .ensures (S .Σ) (S .constants)) (c .before .before .before .typed2 .given .1) in
+    let T = term-here (lent-here at-start) (a .register .now) (at-prepare .prepare .last .1 .1 .1 .0) (a .proof .now) (a .operation) (a .extract)
+    (a .delivery) (at-prepare .prepare .result) (at-prepare .prepare .ensures) (at-ready2 .ready2 .given .0 .0) (passed at-ready2)
+    (at-numbers .numbers .result) (at-numbers .numbers .ensures) (not-false _ (at-else1 .if1 .left))
+    (at-check-term .check-term .last .1 .1 .1 .1 .1 .0) (at-check-term .check-term .result) _ _
+    (at-check-term .check-term .ensures (S .Σ) (S .constants)) (c .before .before .before .typed2 .given .1) in
+    proved (lent-here at-start) (a .register .now) (at-prepare .prepare .last .1 .1 .1 .0) (a .proof .now) (a .operation) (a .extract) (a .delivery)
+    (at-prepare .prepare .result) (at-prepare .prepare .ensures) (at-ready2 .ready2 .given .0 .0) (passed at-ready2) (at-numbers .numbers .result)
+    (at-numbers .numbers .ensures) (not-false _ (at-else1 .if1 .left)) (at-check-term .check-term .last .1 .1 .1 .1 .1 .0)
+    (at-check-term .check-term .result) _ _ (at-check-term .check-term .ensures (S .Σ) (S .constants)) (c .before .before .before .typed2 .given .1)
+    (c .proves .result)
+    (c .proves .ensures (lent-here at-start) (S .Σ) (S .rs) (a .delivery) (T .term) (A .type) (S .reads) (T .term-is) (A .front) (A .words-are))
 
 pub grantable-spec : {M : Type 1} → statement M
 grantable-spec =

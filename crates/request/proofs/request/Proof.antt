@@ -30,11 +30,38 @@ same-length c = search needs
 same-length-2 : tie.Need-same-length-2
 same-length-2 c = search needs
 
+-- ---- places, from a later one back to an earlier one
+
+abbrev before-slice-known : tie.After-slice-known → tie.Start
+before-slice-known c = c .before .before
+
+abbrev before-grantable : tie.After-grantable → tie.After-slice-known
+before-grantable c = c .before .before .before .before .before
+
+abbrev before-match-keys1 : tie.At-match-keys1 → tie.After-grantable
+before-match-keys1 c = c .before .before .before
+
 returns : tie.Need-returns
-returns c = request-refused (lent-here (c .before .before .before .before .before .before .before .before .before .before .before)) (c .before .before .before .before .before .before .before .before .before .before .before .args .register .now) (c .before .before .before .before .before .before .before .before .before .before .before .args .proof .now) (c .before .before .before .before .before .before .before .before .before .before .before .args .operation) (c .before .before .before .before .before .before .before .before .before .before .before .args .extract) (c .before .before .before .before .before .before .before .before .before .before .before .args .delivery) (c .before .before .before .before .grantable .result) (c .before .before .before .before .grantable .ensures) _ _ (c .enum-told2 .given .1)
+returns c =
+    let at-grantable = c .before .before .before .before in
+    let at-start = before-slice-known (before-grantable at-grantable) in
+    let a = at-start .args in
+    request-refused (lent-here at-start) (a .register .now) (a .proof .now) (a .operation) (a .extract) (a .delivery)
+    (at-grantable .grantable .result) (at-grantable .grantable .ensures) _ _ (c .enum-told2 .given .1)
 
 add-grant-requires : tie.Need-add-grant-requires
-add-grant-requires c κs = let s = c .before .before .before .before .before .before .before .before .before .before .before .before in let G = grantable-now (lent-here s) (s .args .register .now) (s .args .proof .now) (s .args .operation) (s .args .extract) (s .args .delivery) (c .before .before .before .before .before .grantable .result) (c .before .before .before .before .before .grantable .ensures) (c .before .enum-told .given .1) in (omega (arith, G .operation, G .proof .ready .not-more), G .extract, G .delivery, grant-room (lent-here s) (s .args .register .now) (s .args .proof .now) (s .args .operation) (s .args .extract) (s .args .delivery) (c .before .before .before .before .before .grantable .result) (c .before .before .before .before .before .grantable .ensures) (c .before .enum-told .given .1))
+add-grant-requires c κs =
+    let at-grantable = c .before .before .before .before .before in
+    let s = before-slice-known (before-grantable at-grantable) in
+    let a = s .args in
+    let G = grantable-now (lent-here s) (a .register .now) (a .proof .now) (a .operation) (a .extract) (a .delivery) (at-grantable .grantable .result)
+    (at-grantable .grantable .ensures) (c .before .enum-told .given .1) in (
+      omega (arith, G .operation, G .proof .ready .not-more),
+      G .extract,
+      G .delivery,
+      grant-room (lent-here s) (a .register .now) (a .proof .now)
+          (a .operation) (a .extract) (a .delivery) (at-grantable .grantable .result) (at-grantable .grantable .ensures) (c .before .enum-told .given .1),
+    )
 
 same-length-3 : tie.Need-same-length-3
 same-length-3 c = search needs
@@ -43,7 +70,12 @@ same-length-4 : tie.Need-same-length-4
 same-length-4 c = search needs
 
 returns-2 : tie.Need-returns-2
-returns-2 c = let s = c .before .before .before .before .before .before .before .before .before .before .before .before .before .before .before in request-granted (lent-here s) (s .args .register .now) (s .args .proof .now) (s .args .operation) (s .args .extract) (s .args .delivery) (c .before .before .before .before .before .before .before .before .grantable .result) (c .before .before .before .before .before .before .before .before .grantable .ensures) (c .before .before .before .before .enum-told .given .1) _ (c .before .before .add-grant .ensures)
+returns-2 c =
+    let at-grantable = before-match-keys1 (c .before .before .before .before .before) in
+    let s = before-slice-known (before-grantable at-grantable) in
+    let a = s .args in
+    request-granted (lent-here s) (a .register .now) (a .proof .now) (a .operation) (a .extract) (a .delivery) (at-grantable .grantable .result)
+    (at-grantable .grantable .ensures) (c .before .before .before .before .enum-told .given .1) _ (c .before .before .add-grant .ensures)
 
 pub request-spec : {M : Type 1} → statement M
 request-spec =

@@ -20,8 +20,24 @@ sayable-requires c κs = search needs
 enum-told : tie.Need-enum-told
 enum-told c = search needs
 
+-- ---- places, from a later one back to an earlier one
+
+abbrev before-slice-known : tie.After-slice-known → tie.Start
+before-slice-known c = c .before .before
+
+abbrev before-sayable : tie.After-sayable → tie.After-slice-known
+before-sayable c = c .before .before .before .before .before
+
+abbrev before-match-keys1 : tie.At-match-keys1 → tie.After-sayable
+before-match-keys1 c = c .before .before .before
+
 add-statement-requires : tie.Need-add-statement-requires
-add-statement-requires c κs = say-room (lent-here (c .before .before .before .before .before .before .before .before .before .before .before .before)) (c .before .before .before .before .before .before .before .before .before .before .before .before .args .register .now) (c .before .before .before .before .before .before .before .before .before .before .before .before .args .proposition .now) (c .before .before .before .before .before .before .before .before .before .before .before .before .args .principal) (c .before .before .before .before .before .sayable .result) (c .before .before .before .before .before .sayable .ensures) (c .before .enum-told .given .1)
+add-statement-requires c κs =
+    let at-sayable = c .before .before .before .before .before in
+    let at-start = before-slice-known (before-sayable at-sayable) in
+    let a = at-start .args in
+    say-room (lent-here at-start) (a .register .now) (a .proposition .now) (a .principal) (at-sayable .sayable .result) (at-sayable .sayable .ensures)
+    (c .before .enum-told .given .1)
 
 enum-told-2 : tie.Need-enum-told-2
 enum-told-2 c = search needs
@@ -36,7 +52,12 @@ same-length-2 : tie.Need-same-length-2
 same-length-2 c = search needs
 
 returns : tie.Need-returns
-returns c = say-added (lent-here (c .before .before .before .before .before .before .before .before .before .before .before .before .before .before .before)) (c .before .before .before .before .before .before .before .before .before .before .before .before .before .before .before .args .register .now) (c .before .before .before .before .before .before .before .before .before .before .before .before .before .before .before .args .proposition .now) (c .before .before .before .before .before .before .before .before .before .before .before .before .before .before .before .args .principal) (c .before .before .before .before .before .before .before .before .sayable .result) (c .before .before .before .before .before .before .before .before .sayable .ensures) (c .before .before .before .before .enum-told .given .1) _ (c .before .before .add-statement .ensures)
+returns c =
+    let at-sayable = before-match-keys1 (c .before .before .before .before .before) in
+    let at-start = before-slice-known (before-sayable at-sayable) in
+    let a = at-start .args in
+    say-added (lent-here at-start) (a .register .now) (a .proposition .now) (a .principal) (at-sayable .sayable .result)
+    (at-sayable .sayable .ensures) (c .before .before .before .before .enum-told .given .1) _ (c .before .before .add-statement .ensures)
 
 same-length-3 : tie.Need-same-length-3
 same-length-3 c = search needs
@@ -45,7 +66,12 @@ same-length-4 : tie.Need-same-length-4
 same-length-4 c = search needs
 
 returns-2 : tie.Need-returns-2
-returns-2 c = say-held (lent-here (c .before .before .before .before .before .before .before .before .before .before .before)) (c .before .before .before .before .before .before .before .before .before .before .before .args .register .now) (c .before .before .before .before .before .before .before .before .before .before .before .args .proposition .now) (c .before .before .before .before .before .before .before .before .before .before .before .args .principal) (c .before .before .before .before .sayable .result) (c .before .before .before .before .sayable .ensures) (c .enum-told2 .given .1)
+returns-2 c =
+    let at-sayable = c .before .before .before .before in
+    let at-start = before-slice-known (before-sayable at-sayable) in
+    let a = at-start .args in
+    say-held (lent-here at-start) (a .register .now) (a .proposition .now) (a .principal) (at-sayable .sayable .result) (at-sayable .sayable .ensures)
+    (c .enum-told2 .given .1)
 
 same-length-5 : tie.Need-same-length-5
 same-length-5 c = search needs
@@ -54,7 +80,12 @@ same-length-6 : tie.Need-same-length-6
 same-length-6 c = search needs
 
 returns-3 : tie.Need-returns-3
-returns-3 c = say-refused (lent-here (c .before .before .before .before .before .before .before .before .before .before .before .before)) (c .before .before .before .before .before .before .before .before .before .before .before .before .args .register .now) (c .before .before .before .before .before .before .before .before .before .before .before .before .args .proposition .now) (c .before .before .before .before .before .before .before .before .before .before .before .before .args .principal) (c .before .before .before .before .before .sayable .result) (c .before .before .before .before .before .sayable .ensures) _ _ (c .before .tested .given .1)
+returns-3 c =
+    let at-sayable = c .before .before .before .before .before in
+    let at-start = before-slice-known (before-sayable at-sayable) in
+    let a = at-start .args in
+    say-refused (lent-here at-start) (a .register .now) (a .proposition .now) (a .principal) (at-sayable .sayable .result)
+    (at-sayable .sayable .ensures) _ _ (c .before .tested .given .1)
 
 pub say-spec : {M : Type 1} → statement M
 say-spec =

@@ -19,9 +19,42 @@ use Rattle.typing.proofs.check.check_statement.Reads as check-statement-reads
 abbrev lent-here : tie.Start → Lent
 lent-here s = lent-of (s .args .sig .now) (s .args .n) (length (s .args .ws .now))
 
+-- ---- places, from a later one back to an earlier one
+
+abbrev before-table : tie.After-table → tie.Start
+before-table c = c .before .before .before .before .before
+
+abbrev before-prepare : tie.After-prepare → tie.After-table
+before-prepare c = c .before .before
+
+abbrev before-table2 : tie.After-table2 → tie.After-prepare
+before-table2 c = c .before
+
+abbrev before-ready2 : tie.After-ready2 → tie.After-prepare
+before-ready2 c = c .before .before .before .before .before
+
+abbrev before-else1 : tie.Else1 → tie.After-ready2
+before-else1 c = c .before .before
+
+abbrev before-else2 : tie.Else2 → tie.Else1
+before-else2 c = c .before
+
+abbrev before-check-statement : tie.After-check-statement → tie.Else2
+before-check-statement c = c .before .before .before
+
 -- the shared tests passed
-passed : (c : tie.After-ready2) → Passed-so (lent-here (c .before .before .before .before .before .before .before .before .before .before .before .before)) (c .before .before .before .before .before .before .before .before .before .before .before .before .args .register .now) (c .before .before .before .before .before .prepare .last .1 .1 .1 .0) (c .before .before .before .before .before .prepare .result) (say-own (c .before .before .before .before .before .before .before .before .before .before .before .before .args .principal) (c .before .before .before .before .before .before .before .before .before .before .before .before .args .proposition .now)) (c .before .before .before .before .before .prepare .ensures) (c .ready2 .given .0 .0)
-passed c = passed-so (lent-here (c .before .before .before .before .before .before .before .before .before .before .before .before)) (c .before .before .before .before .before .before .before .before .before .before .before .before .args .register .now) (c .before .before .before .before .before .prepare .last .1 .1 .1 .0) (c .before .before .before .before .before .prepare .result) (say-own (c .before .before .before .before .before .before .before .before .before .before .before .before .args .principal) (c .before .before .before .before .before .before .before .before .before .before .before .before .args .proposition .now)) (c .before .before .before .before .before .prepare .ensures) (c .ready2 .given .0 .0) (c .ready2 .given .1)
+passed : (c : tie.After-ready2) →
+    let at-prepare = before-ready2 c in
+    let at-start = before-table (before-prepare at-prepare) in
+    let a = at-start .args in
+    Passed-so (lent-here at-start) (a .register .now) (at-prepare .prepare .last .1 .1 .1 .0) (at-prepare .prepare .result)
+    (say-own (a .principal) (a .proposition .now)) (at-prepare .prepare .ensures) (c .ready2 .given .0 .0)
+passed c =
+    let at-prepare = before-ready2 c in
+    let at-start = before-table (before-prepare at-prepare) in
+    let a = at-start .args in
+    passed-so (lent-here at-start) (a .register .now) (at-prepare .prepare .last .1 .1 .1 .0) (at-prepare .prepare .result)
+    (say-own (a .principal) (a .proposition .now)) (at-prepare .prepare .ensures) (c .ready2 .given .0 .0) (c .ready2 .given .1)
 
 slice-aggregate-prepare : tie.Need-slice-aggregate-prepare
 slice-aggregate-prepare c = search needs
@@ -39,22 +72,58 @@ same-length : tie.Need-same-length
 same-length c = search needs
 
 returns : tie.Need-returns
-returns c = principal-over (lent-here (c .before .before .before .before .before .before .before .before .before .before .before .before .before .before)) (c .before .before .before .before .before .before .before .before .before .before .before .before .before .before .args .register .now) (c .before .before .before .before .before .before .before .prepare .last .1 .1 .1 .0) (c .before .before .before .before .before .before .before .before .before .before .before .before .before .before .args .proposition .now) (c .before .before .before .before .before .before .before .before .before .before .before .before .before .before .args .principal) (c .before .before .before .before .before .before .before .prepare .result) (c .before .before .before .before .before .before .before .prepare .ensures) (c .before .before .ready2 .given .0 .0) (passed (c .before .before)) (c .if1 .taken)
+returns c =
+    let at-ready2 = c .before .before in
+    let at-prepare = before-ready2 at-ready2 in
+    let at-start = before-table (before-prepare at-prepare) in
+    let a = at-start .args in
+    principal-over (lent-here at-start) (a .register .now) (at-prepare .prepare .last .1 .1 .1 .0) (a .proposition .now) (a .principal)
+    (at-prepare .prepare .result) (at-prepare .prepare .ensures) (at-ready2 .ready2 .given .0 .0) (passed at-ready2) (c .if1 .taken)
 
 same-length-2 : tie.Need-same-length-2
 same-length-2 c = search needs
 
 returns-2 : tie.Need-returns-2
-returns-2 c = by-desk (lent-here (c .before .before .before .before .before .before .before .before .before .before .before .before .before .before .before)) (c .before .before .before .before .before .before .before .before .before .before .before .before .before .before .before .args .register .now) (c .before .before .before .before .before .before .before .before .prepare .last .1 .1 .1 .0) (c .before .before .before .before .before .before .before .before .before .before .before .before .before .before .before .args .proposition .now) (c .before .before .before .before .before .before .before .before .before .before .before .before .before .before .before .args .principal) (c .before .before .before .before .before .before .before .before .prepare .result) (c .before .before .before .before .before .before .before .before .prepare .ensures) (c .before .before .before .ready2 .given .0 .0) (passed (c .before .before .before)) (c .before .if1 .left) (c .if2 .taken)
+returns-2 c =
+    let at-else1 = c .before in
+    let at-ready2 = before-else1 at-else1 in
+    let at-prepare = before-ready2 at-ready2 in
+    let at-start = before-table (before-prepare at-prepare) in
+    let a = at-start .args in
+    by-desk (lent-here at-start) (a .register .now) (at-prepare .prepare .last .1 .1 .1 .0) (a .proposition .now) (a .principal)
+    (at-prepare .prepare .result) (at-prepare .prepare .ensures) (at-ready2 .ready2 .given .0 .0) (passed at-ready2) (at-else1 .if1 .left)
+    (c .if2 .taken)
 
 array-share-prefix-table : tie.Need-array-share-prefix-table
-array-share-prefix-table c = let S = passed (c .before .before .before) in table-within (lent-here (c .before .before .before .before .before .before .before .before .before .before .before .before .before .before .before)) (c .before .before .before .before .before .before .before .before .prepare .last .1 .1 .1 .0) (c .before .before .before .ready2 .given .0 .0) (S .Σ) (S .counted) (S .constants)
+array-share-prefix-table c =
+    let at-ready2 = before-else1 (before-else2 c) in
+    let at-prepare = before-ready2 at-ready2 in
+    let at-start = before-table (before-prepare at-prepare) in
+    let S = passed at-ready2 in
+    table-within (lent-here at-start) (at-prepare .prepare .last .1 .1 .1 .0) (at-ready2 .ready2 .given .0 .0) (S .Σ) (S .counted) (S .constants)
 
 slice-aggregate-check-statement : tie.Need-slice-aggregate-check-statement
-slice-aggregate-check-statement c = let S = passed (c .before .before .before .before) in sym (length-take-le (c .before .before .before .before .ready2 .given .0 .0) (c .before .before .before .before .before .before .before .before .before .prepare .last .1 .1 .1 .0) (table-within (lent-here (c .before .before .before .before .before .before .before .before .before .before .before .before .before .before .before .before)) (c .before .before .before .before .before .before .before .before .before .prepare .last .1 .1 .1 .0) (c .before .before .before .before .ready2 .given .0 .0) (S .Σ) (S .counted) (S .constants)))
+slice-aggregate-check-statement c =
+    let at-ready2 = before-else1 (before-else2 (c .before)) in
+    let at-prepare = before-ready2 at-ready2 in
+    let at-start = before-table (before-prepare at-prepare) in
+    let S = passed at-ready2 in
+    sym
+    (length-take-le (at-ready2 .ready2 .given .0 .0) (at-prepare .prepare .last .1 .1 .1 .0)
+    (table-within (lent-here at-start) (at-prepare .prepare .last .1 .1 .1 .0) (at-ready2 .ready2 .given .0 .0) (S .Σ) (S .counted) (S .constants)))
 
 check-statement-requires : tie.Need-check-statement-requires
-check-statement-requires c κs = let S = passed (c .before .before .before .before .before) in record { Σ = S .Σ; constants = S .constants; workspace = omega (arith, S .lent-so .workspace, c .before .before .before .before .before .before .before .before .before .before .prepare .kept .1 .1 .1 .1 .0); words = omega arith; nesting = omega arith }
+check-statement-requires c κs =
+    let at-ready2 = before-else1 (before-else2 (c .before .before)) in
+    let at-prepare = before-ready2 at-ready2 in
+    let S = passed at-ready2 in
+    record {
+      Σ = S .Σ;
+      constants = S .constants;
+      workspace = omega (arith, S .lent-so .workspace, at-prepare .prepare .kept .1 .1 .1 .1 .0);
+      words = omega arith;
+      nesting = omega arith;
+    }
 
 enum-known-stated : tie.Need-enum-known-stated
 enum-known-stated c = search needs
@@ -63,25 +132,65 @@ enum-told : tie.Need-enum-told
 enum-told c = search needs
 
 addable-requires : tie.Need-addable-requires
-addable-requires c κs = let S = passed (c .before .before .before .before .before .before .before .before .before .before) in let T = statement-so (S .Σ) (S .constants .signature) (c .before .before .before .before .before .before .before .before .before .before .before .before .before .before .before .before .before .before .before .before .before .before .args .principal) (c .before .before .before .before .before .before .before .before .before .before .before .before .before .before .before .before .before .before .before .before .before .before .args .proposition .now) (c .before .before .before .before .check-statement .result) (c .before .before .before .before .check-statement .ensures (S .Σ) (c .before .before .before .before .before .before .before .before .before .before .before .before .before .before .before .before .before .before .before .before .before .before .args .principal) (S .constants)) (c .enum-told .given .1) in record { rs = S .rs; reads = S .reads; term = T .term; is = T .term-is; short = T .short }
+addable-requires c κs =
+    let at-check-statement = c .before .before .before .before in
+    let at-ready2 = before-else1 (before-else2 (before-check-statement at-check-statement)) in
+    let at-start = before-table (before-prepare (before-ready2 at-ready2)) in
+    let a = at-start .args in
+    let S = passed at-ready2 in
+    let T = statement-so (S .Σ) (S .constants .signature) (a .principal) (a .proposition .now) (at-check-statement .check-statement .result)
+    (at-check-statement .check-statement .ensures (S .Σ) (a .principal) (S .constants)) (c .enum-told .given .1) in
+    record { rs = S .rs; reads = S .reads; term = T .term; is = T .term-is; short = T .short }
 
 same-length-3 : tie.Need-same-length-3
 same-length-3 c = search needs
 
 returns-3 : tie.Need-returns-3
-returns-3 c = say-not-prepared (lent-here (c .before .before .before .before .before .before .before .before .before .before .before .before .before)) (c .before .before .before .before .before .before .before .before .before .before .before .before .before .args .register .now) (c .before .before .before .before .before .before .prepare .last .1 .1 .1 .0) (c .before .before .before .before .before .before .before .before .before .before .before .before .before .args .proposition .now) (c .before .before .before .before .before .before .before .before .before .before .before .before .before .args .principal) (c .before .before .before .before .before .before .prepare .result) (c .before .before .before .before .before .before .prepare .ensures) _ _ (c .before .ready .given .1)
+returns-3 c =
+    let at-prepare = before-table2 (c .before .before .before .before .before) in
+    let at-start = before-table (before-prepare at-prepare) in
+    let a = at-start .args in
+    say-not-prepared (lent-here at-start) (a .register .now) (at-prepare .prepare .last .1 .1 .1 .0) (a .proposition .now) (a .principal)
+    (at-prepare .prepare .result) (at-prepare .prepare .ensures) _ _ (c .before .ready .given .1)
 
 same-length-4 : tie.Need-same-length-4
 same-length-4 c = search needs
 
 returns-4 : tie.Need-returns-4
-returns-4 c = let S = passed (c .before .before .before .before .before .before .before .before .before .before .before) in not-stated (lent-here (c .before .before .before .before .before .before .before .before .before .before .before .before .before .before .before .before .before .before .before .before .before .before .before)) (c .before .before .before .before .before .before .before .before .before .before .before .before .before .before .before .before .before .before .before .before .before .before .before .args .register .now) (c .before .before .before .before .before .before .before .before .before .before .before .before .before .before .before .before .prepare .last .1 .1 .1 .0) (c .before .before .before .before .before .before .before .before .before .before .before .before .before .before .before .before .before .before .before .before .before .before .before .args .proposition .now) (c .before .before .before .before .before .before .before .before .before .before .before .before .before .before .before .before .before .before .before .before .before .before .before .args .principal) (c .before .before .before .before .before .before .before .before .before .before .before .before .before .before .before .before .prepare .result) (c .before .before .before .before .before .before .before .before .before .before .before .before .before .before .before .before .prepare .ensures) (c .before .before .before .before .before .before .before .before .before .before .before .ready2 .given .0 .0) (passed (c .before .before .before .before .before .before .before .before .before .before .before)) (c .before .before .before .before .before .before .before .before .before .if1 .left) (c .before .before .before .before .before .before .before .before .if2 .left) (c .before .before .before .before .before .check-statement .result) (c .before .before .before .before .before .check-statement .ensures (S .Σ) (c .before .before .before .before .before .before .before .before .before .before .before .before .before .before .before .before .before .before .before .before .before .before .before .args .principal) (S .constants)) _ _ (c .before .stated .given .1)
+returns-4 c =
+    let at-check-statement = c .before .before .before .before .before in
+    let at-else2 = before-check-statement at-check-statement in
+    let at-else1 = before-else2 at-else2 in
+    let at-ready2 = before-else1 at-else1 in
+    let at-prepare = before-ready2 at-ready2 in
+    let at-start = before-table (before-prepare at-prepare) in
+    let a = at-start .args in
+    let S = passed at-ready2 in
+    not-stated (lent-here at-start) (a .register .now) (at-prepare .prepare .last .1 .1 .1 .0) (a .proposition .now) (a .principal)
+    (at-prepare .prepare .result) (at-prepare .prepare .ensures) (at-ready2 .ready2 .given .0 .0) (passed at-ready2) (at-else1 .if1 .left)
+    (at-else2 .if2 .left) (at-check-statement .check-statement .result)
+    (at-check-statement .check-statement .ensures (S .Σ) (a .principal) (S .constants)) _ _ (c .before .stated .given .1)
 
 same-length-5 : tie.Need-same-length-5
 same-length-5 c = search needs
 
 returns-5 : tie.Need-returns-5
-returns-5 c = let S = passed (c .before .before .before .before .before .before .before .before .before .before .before) in let T = statement-so (S .Σ) (S .constants .signature) (c .before .before .before .before .before .before .before .before .before .before .before .before .before .before .before .before .before .before .before .before .before .before .before .args .principal) (c .before .before .before .before .before .before .before .before .before .before .before .before .before .before .before .before .before .before .before .before .before .before .before .args .proposition .now) (c .before .before .before .before .before .check-statement .result) (c .before .before .before .before .before .check-statement .ensures (S .Σ) (c .before .before .before .before .before .before .before .before .before .before .before .before .before .before .before .before .before .before .before .before .before .before .before .args .principal) (S .constants)) (c .before .enum-told .given .1) in stated (lent-here (c .before .before .before .before .before .before .before .before .before .before .before .before .before .before .before .before .before .before .before .before .before .before .before)) (c .before .before .before .before .before .before .before .before .before .before .before .before .before .before .before .before .before .before .before .before .before .before .before .args .register .now) (c .before .before .before .before .before .before .before .before .before .before .before .before .before .before .before .before .prepare .last .1 .1 .1 .0) (c .before .before .before .before .before .before .before .before .before .before .before .before .before .before .before .before .before .before .before .before .before .before .before .args .proposition .now) (c .before .before .before .before .before .before .before .before .before .before .before .before .before .before .before .before .before .before .before .before .before .before .before .args .principal) (c .before .before .before .before .before .before .before .before .before .before .before .before .before .before .before .before .prepare .result) (c .before .before .before .before .before .before .before .before .before .before .before .before .before .before .before .before .prepare .ensures) (c .before .before .before .before .before .before .before .before .before .before .before .ready2 .given .0 .0) (passed (c .before .before .before .before .before .before .before .before .before .before .before)) (c .before .before .before .before .before .before .before .before .before .if1 .left) (c .before .before .before .before .before .before .before .before .if2 .left) (c .before .before .before .before .before .check-statement .result) (c .before .before .before .before .before .check-statement .ensures (S .Σ) (c .before .before .before .before .before .before .before .before .before .before .before .before .before .before .before .before .before .before .before .before .before .before .before .args .principal) (S .constants)) T (c .addable .result) (c .addable .ensures (lent-here (c .before .before .before .before .before .before .before .before .before .before .before .before .before .before .before .before .before .before .before .before .before .before .before)) (S .Σ) (S .rs) (T .term) (S .reads) (T .term-is))
+returns-5 c =
+    let at-check-statement = c .before .before .before .before .before in
+    let at-else2 = before-check-statement at-check-statement in
+    let at-else1 = before-else2 at-else2 in
+    let at-ready2 = before-else1 at-else1 in
+    let at-prepare = before-ready2 at-ready2 in
+    let at-start = before-table (before-prepare at-prepare) in
+    let a = at-start .args in
+    let S = passed at-ready2 in
+    let T = statement-so (S .Σ) (S .constants .signature) (a .principal) (a .proposition .now) (at-check-statement .check-statement .result)
+    (at-check-statement .check-statement .ensures (S .Σ) (a .principal) (S .constants)) (c .before .enum-told .given .1) in
+    stated (lent-here at-start) (a .register .now) (at-prepare .prepare .last .1 .1 .1 .0) (a .proposition .now) (a .principal)
+    (at-prepare .prepare .result) (at-prepare .prepare .ensures) (at-ready2 .ready2 .given .0 .0) (passed at-ready2) (at-else1 .if1 .left)
+    (at-else2 .if2 .left) (at-check-statement .check-statement .result)
+    (at-check-statement .check-statement .ensures (S .Σ) (a .principal) (S .constants)) T (c .addable .result)
+    (c .addable .ensures (lent-here at-start) (S .Σ) (S .rs) (T .term) (S .reads) (T .term-is))
 
 pub sayable-spec : {M : Type 1} → statement M
 sayable-spec =

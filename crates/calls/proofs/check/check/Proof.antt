@@ -14,8 +14,18 @@ judge-requires c κs = search needs
 enum-known-judged : tie.Need-enum-known-judged
 enum-known-judged c = search needs
 
+-- ---- places, from a later one back to an earlier one
+
+abbrev before-ws : tie.After-ws → tie.After-judge
+before-ws c = c .before
+
 slice-aggregate-result : tie.Need-slice-aggregate-result
-slice-aggregate-result c = sym (length-take-le (c .before .before .judged .given .0 .0) (c .before .before .before .before .before .before .judge .last .1 .1 .1 .1 .0) (words-within _ _ (c .before .before .before .before .before .before .judge .last .1 .1 .1 .1 .0) (c .before .before .before .before .before .before .judge .result) (c .before .before .before .before .before .before .judge .ensures) _ _ (c .before .before .judged .given .1)))
+slice-aggregate-result c =
+    let at-judge = before-ws (c .before .before .before .before .before) in
+    sym
+    (length-take-le (c .before .before .judged .given .0 .0) (at-judge .judge .last .1 .1 .1 .1 .0)
+    (words-within _ _ (at-judge .judge .last .1 .1 .1 .1 .0) (at-judge .judge .result) (at-judge .judge .ensures) _ _
+    (c .before .before .judged .given .1)))
 
 enum-known-judged-2 : tie.Need-enum-known-judged-2
 enum-known-judged-2 c = search needs
@@ -24,10 +34,14 @@ slice-aggregate-result-2 : tie.Need-slice-aggregate-result-2
 slice-aggregate-result-2 c = search needs
 
 returns : tie.Need-returns
-returns c = handed-type _ _ (c .before .before .before .before .before .before .judge .last .1 .1 .1 .1 .0) (c .before .before .before .before .before .before .judge .result) (c .before .before .before .before .before .before .judge .ensures) _ _ (c .before .before .judged .given .1)
+returns c =
+    let at-judge = before-ws (c .before .before .before .before .before) in
+    handed-type _ _ (at-judge .judge .last .1 .1 .1 .1 .0) (at-judge .judge .result) (at-judge .judge .ensures) _ _ (c .before .before .judged .given .1)
 
 returns-2 : tie.Need-returns-2
-returns-2 c = handed-nothing _ _ (c .before .before .before .before .before .before .judge .last .1 .1 .1 .1 .0) (c .before .before .before .before .before .before .judge .result) (c .before .before .before .before .before .before .judge .ensures) _ _ (c .before .before .judged2 .given .1)
+returns-2 c =
+    let at-judge = before-ws (c .before .before .before .before .before) in
+    handed-nothing _ _ (at-judge .judge .last .1 .1 .1 .1 .0) (at-judge .judge .result) (at-judge .judge .ensures) _ _ (c .before .before .judged2 .given .1)
 
 pub check-spec : {M : Type 1} → statement M
 check-spec =

@@ -18,13 +18,59 @@ use Rattle.typing.proofs.check.check_term.Reads as check-term-reads
 abbrev lent-here : tie.Start → Lent
 lent-here s = lent-of (s .args .sig .now) (s .args .n) (length (s .args .ws .now))
 
+-- ---- places, from a later one back to an earlier one
+
+abbrev before-table : tie.After-table → tie.Start
+before-table c = c .before .before .before .before .before
+
+abbrev before-prepare : tie.After-prepare → tie.After-table
+before-prepare c = c .before .before
+
+abbrev before-table2 : tie.After-table2 → tie.After-prepare
+before-table2 c = c .before
+
+abbrev before-ready2 : tie.After-ready2 → tie.After-prepare
+before-ready2 c = c .before .before .before .before .before
+
+abbrev before-check-term : tie.After-check-term → tie.After-ready2
+before-check-term c = c .before .before .before .before
+
+abbrev before-match2-keys1 : tie.At-match2-keys1 → tie.After-check-term
+before-match2-keys1 c = c .before .before .before
+
 -- the shared tests passed
-passed : (c : tie.After-ready2) → Passed-so (lent-here (c .before .before .before .before .before .before .before .before .before .before .before .before)) (c .before .before .before .before .before .before .before .before .before .before .before .before .args .register .now) (c .before .before .before .before .before .prepare .last .1 .1 .1 .0) (c .before .before .before .before .before .prepare .result) (check-own (c .before .before .before .before .before .before .before .before .before .before .before .before .args .term .now)) (c .before .before .before .before .before .prepare .ensures) (c .ready2 .given .0 .0)
-passed c = passed-so (lent-here (c .before .before .before .before .before .before .before .before .before .before .before .before)) (c .before .before .before .before .before .before .before .before .before .before .before .before .args .register .now) (c .before .before .before .before .before .prepare .last .1 .1 .1 .0) (c .before .before .before .before .before .prepare .result) (check-own (c .before .before .before .before .before .before .before .before .before .before .before .before .args .term .now)) (c .before .before .before .before .before .prepare .ensures) (c .ready2 .given .0 .0) (c .ready2 .given .1)
+passed : (c : tie.After-ready2) →
+    let at-prepare = before-ready2 c in
+    let at-start = before-table (before-prepare at-prepare) in
+    Passed-so (lent-here at-start) (at-start .args .register .now) (at-prepare .prepare .last .1 .1 .1 .0) (at-prepare .prepare .result)
+    (check-own (at-start .args .term .now)) (at-prepare .prepare .ensures) (c .ready2 .given .0 .0)
+passed c =
+    let at-prepare = before-ready2 c in
+    let at-start = before-table (before-prepare at-prepare) in
+    passed-so (lent-here at-start) (at-start .args .register .now) (at-prepare .prepare .last .1 .1 .1 .0) (at-prepare .prepare .result)
+    (check-own (at-start .args .term .now)) (at-prepare .prepare .ensures) (c .ready2 .given .0 .0) (c .ready2 .given .1)
 
 -- the term has a type
-typed : (c : tie.After-enum-told) → Typed-so (passed (c .before .before .before .before .before .before .before .before) .Σ) (c .before .before .before .before .before .before .before .before .before .before .before .before .before .before .before .before .before .before .before .before .args .term .now) (type-here (lent-here (c .before .before .before .before .before .before .before .before .before .before .before .before .before .before .before .before .before .before .before .before)) (c .before .before .before .before .before .before .before .before .before .before .before .before .before .before .before .before .before .before .before .before .args .register .now) (c .before .before .before .before .before .before .before .before .before .before .before .before .before .prepare .last .1 .1 .1 .0) (c .before .before .before .before .before .before .before .before .before .before .before .before .before .before .before .before .before .before .before .before .args .term .now) (c .before .before .before .before .before .before .before .before .before .before .before .before .before .prepare .result) (c .before .before .before .before .before .before .before .before .before .before .before .before .before .prepare .ensures) (c .before .before .before .before .before .before .before .before .ready2 .given .0 .0) (passed (c .before .before .before .before .before .before .before .before)) (c .before .before .before .before .check-term .last .1 .1 .1 .1 .1 .0) (c .before .before .before .before .check-term .result) _ _ (c .before .before .before .before .check-term .ensures (passed (c .before .before .before .before .before .before .before .before) .Σ) (passed (c .before .before .before .before .before .before .before .before) .constants)) (c .enum-told .given .1) .type)
-typed c = term-here (lent-here (c .before .before .before .before .before .before .before .before .before .before .before .before .before .before .before .before .before .before .before .before)) (c .before .before .before .before .before .before .before .before .before .before .before .before .before .before .before .before .before .before .before .before .args .register .now) (c .before .before .before .before .before .before .before .before .before .before .before .before .before .prepare .last .1 .1 .1 .0) (c .before .before .before .before .before .before .before .before .before .before .before .before .before .before .before .before .before .before .before .before .args .term .now) (c .before .before .before .before .before .before .before .before .before .before .before .before .before .prepare .result) (c .before .before .before .before .before .before .before .before .before .before .before .before .before .prepare .ensures) (c .before .before .before .before .before .before .before .before .ready2 .given .0 .0) (passed (c .before .before .before .before .before .before .before .before)) (c .before .before .before .before .check-term .last .1 .1 .1 .1 .1 .0) (c .before .before .before .before .check-term .result) _ _ (c .before .before .before .before .check-term .ensures (passed (c .before .before .before .before .before .before .before .before) .Σ) (passed (c .before .before .before .before .before .before .before .before) .constants)) (c .enum-told .given .1)
+typed : (c : tie.After-enum-told) →
+    let at-check-term = c .before .before .before .before in
+    let at-ready2 = before-check-term at-check-term in
+    let at-prepare = before-ready2 at-ready2 in
+    let at-start = before-table (before-prepare at-prepare) in
+    let a = at-start .args in
+    Typed-so (passed at-ready2 .Σ) (a .term .now)
+    (type-here (lent-here at-start) (a .register .now) (at-prepare .prepare .last .1 .1 .1 .0) (a .term .now) (at-prepare .prepare .result)
+    (at-prepare .prepare .ensures) (at-ready2 .ready2 .given .0 .0) (passed at-ready2) (at-check-term .check-term .last .1 .1 .1 .1 .1 .0)
+    (at-check-term .check-term .result) _ _ (at-check-term .check-term .ensures (passed at-ready2 .Σ) (passed at-ready2 .constants))
+    (c .enum-told .given .1) .type)
+typed c =
+    let at-check-term = c .before .before .before .before in
+    let at-ready2 = before-check-term at-check-term in
+    let at-prepare = before-ready2 at-ready2 in
+    let at-start = before-table (before-prepare at-prepare) in
+    term-here (lent-here at-start) (at-start .args .register .now) (at-prepare .prepare .last .1 .1 .1 .0) (at-start .args .term .now)
+    (at-prepare .prepare .result) (at-prepare .prepare .ensures) (at-ready2 .ready2 .given .0 .0) (passed at-ready2)
+    (at-check-term .check-term .last .1 .1 .1 .1 .1 .0) (at-check-term .check-term .result) _ _
+    (at-check-term .check-term .ensures (passed at-ready2 .Σ) (passed at-ready2 .constants)) (c .enum-told .given .1)
 
 slice-aggregate-prepare : tie.Need-slice-aggregate-prepare
 slice-aggregate-prepare c = search needs
@@ -39,13 +85,35 @@ enum-known-ready-2 : tie.Need-enum-known-ready-2
 enum-known-ready-2 c = search needs
 
 array-share-prefix-table : tie.Need-array-share-prefix-table
-array-share-prefix-table c = let S = passed (c .before) in table-within (lent-here (c .before .before .before .before .before .before .before .before .before .before .before .before .before)) (c .before .before .before .before .before .before .prepare .last .1 .1 .1 .0) (c .before .ready2 .given .0 .0) (S .Σ) (S .counted) (S .constants)
+array-share-prefix-table c =
+    let at-ready2 = c .before in
+    let at-prepare = before-ready2 at-ready2 in
+    let at-start = before-table (before-prepare at-prepare) in
+    let S = passed at-ready2 in
+    table-within (lent-here at-start) (at-prepare .prepare .last .1 .1 .1 .0) (at-ready2 .ready2 .given .0 .0) (S .Σ) (S .counted) (S .constants)
 
 slice-aggregate-check-term : tie.Need-slice-aggregate-check-term
-slice-aggregate-check-term c = let S = passed (c .before .before) in sym (length-take-le (c .before .before .ready2 .given .0 .0) (c .before .before .before .before .before .before .before .prepare .last .1 .1 .1 .0) (table-within (lent-here (c .before .before .before .before .before .before .before .before .before .before .before .before .before .before)) (c .before .before .before .before .before .before .before .prepare .last .1 .1 .1 .0) (c .before .before .ready2 .given .0 .0) (S .Σ) (S .counted) (S .constants)))
+slice-aggregate-check-term c =
+    let at-ready2 = c .before .before in
+    let at-prepare = before-ready2 at-ready2 in
+    let at-start = before-table (before-prepare at-prepare) in
+    let S = passed at-ready2 in
+    sym
+    (length-take-le (at-ready2 .ready2 .given .0 .0) (at-prepare .prepare .last .1 .1 .1 .0)
+    (table-within (lent-here at-start) (at-prepare .prepare .last .1 .1 .1 .0) (at-ready2 .ready2 .given .0 .0) (S .Σ) (S .counted) (S .constants)))
 
 check-term-requires : tie.Need-check-term-requires
-check-term-requires c κs = let S = passed (c .before .before .before) in record { Σ = S .Σ; constants = S .constants; workspace = omega (arith, S .lent-so .workspace, c .before .before .before .before .before .before .before .before .prepare .kept .1 .1 .1 .1 .0); words = omega arith; nesting = omega arith }
+check-term-requires c κs =
+    let at-ready2 = c .before .before .before in
+    let at-prepare = before-ready2 at-ready2 in
+    let S = passed at-ready2 in
+    record {
+      Σ = S .Σ;
+      constants = S .constants;
+      workspace = omega (arith, S .lent-so .workspace, at-prepare .prepare .kept .1 .1 .1 .1 .0);
+      words = omega arith;
+      nesting = omega arith;
+    }
 
 enum-told : tie.Need-enum-told
 enum-told c = search needs
@@ -57,10 +125,20 @@ same-length : tie.Need-same-length
 same-length c = search needs
 
 returns : tie.Need-returns
-returns c = let S = passed (c .before .before .before .before .before .before .before .before) in check-not-typed (lent-here (c .before .before .before .before .before .before .before .before .before .before .before .before .before .before .before .before .before .before .before .before)) (c .before .before .before .before .before .before .before .before .before .before .before .before .before .before .before .before .before .before .before .before .args .register .now) (c .before .before .before .before .before .before .before .before .before .before .before .before .before .prepare .last .1 .1 .1 .0) (c .before .before .before .before .before .before .before .before .before .before .before .before .before .before .before .before .before .before .before .before .args .term .now) (c .before .before .before .before .before .before .before .before .before .before .before .before .before .prepare .result) (c .before .before .before .before .before .before .before .before .before .before .before .before .before .prepare .ensures) (c .before .before .before .before .before .before .before .before .ready2 .given .0 .0) (passed (c .before .before .before .before .before .before .before .before)) _ (c .before .before .before .before .check-term .result) _ _ (c .before .before .before .before .check-term .ensures (S .Σ) (S .constants)) (c .enum-told2 .given .1)
+returns c =
+    let at-check-term = c .before .before .before .before in
+    let at-ready2 = before-check-term at-check-term in
+    let at-prepare = before-ready2 at-ready2 in
+    let at-start = before-table (before-prepare at-prepare) in
+    let S = passed at-ready2 in
+    check-not-typed (lent-here at-start) (at-start .args .register .now) (at-prepare .prepare .last .1 .1 .1 .0) (at-start .args .term .now)
+    (at-prepare .prepare .result) (at-prepare .prepare .ensures) (at-ready2 .ready2 .given .0 .0) (passed at-ready2) _
+    (at-check-term .check-term .result) _ _ (at-check-term .check-term .ensures (S .Σ) (S .constants)) (c .enum-told2 .given .1)
 
 first-unheld-requires : tie.Need-first-unheld-requires
-first-unheld-requires c κs = let S = passed (c .before .before .before .before .before .before .before .before) in let T = typed c in (record { found = S .rs; reads = S .reads }, record { term = T .term; is = T .term-is })
+first-unheld-requires c κs =
+    let at-ready2 = before-check-term (c .before .before .before .before) in
+    let S = passed at-ready2 in let T = typed c in (record { found = S .rs; reads = S .reads }, record { term = T .term; is = T .term-is })
 
 enum-known-unheld : tie.Need-enum-known-unheld
 enum-known-unheld c = search needs
@@ -72,21 +150,47 @@ same-length-2 : tie.Need-same-length-2
 same-length-2 c = search needs
 
 returns-2 : tie.Need-returns-2
-returns-2 c = check-not-prepared (lent-here (c .before .before .before .before .before .before .before .before .before .before .before .before .before)) (c .before .before .before .before .before .before .before .before .before .before .before .before .before .args .register .now) (c .before .before .before .before .before .before .prepare .last .1 .1 .1 .0) (c .before .before .before .before .before .before .before .before .before .before .before .before .before .args .term .now) (c .before .before .before .before .before .before .prepare .result) (c .before .before .before .before .before .before .prepare .ensures) _ _ _ (c .before .ready .given .1)
+returns-2 c =
+    let at-prepare = before-table2 (c .before .before .before .before .before) in
+    let at-start = before-table (before-prepare at-prepare) in
+    check-not-prepared (lent-here at-start) (at-start .args .register .now) (at-prepare .prepare .last .1 .1 .1 .0) (at-start .args .term .now)
+    (at-prepare .prepare .result) (at-prepare .prepare .ensures) _ _ _ (c .before .ready .given .1)
 
 same-length-3 : tie.Need-same-length-3
 same-length-3 c = search needs
 
 returns-3 : tie.Need-returns-3
 unfolding typed
-returns-3 c = let S = passed (c .before .before .before .before .before .before .before .before .before .before .before .before) in let T = typed (c .before .before .before .before) in check-unheld (lent-here (c .before .before .before .before .before .before .before .before .before .before .before .before .before .before .before .before .before .before .before .before .before .before .before .before)) (c .before .before .before .before .before .before .before .before .before .before .before .before .before .before .before .before .before .before .before .before .before .before .before .before .args .register .now) (c .before .before .before .before .before .before .before .before .before .before .before .before .before .before .before .before .before .prepare .last .1 .1 .1 .0) (c .before .before .before .before .before .before .before .before .before .before .before .before .before .before .before .before .before .before .before .before .before .before .before .before .args .term .now) (c .before .before .before .before .before .before .before .before .before .before .before .before .before .before .before .before .before .prepare .result) (c .before .before .before .before .before .before .before .before .before .before .before .before .before .before .before .before .before .prepare .ensures) (c .before .before .before .before .before .before .before .before .before .before .before .before .ready2 .given .0 .0) (passed (c .before .before .before .before .before .before .before .before .before .before .before .before)) _ (c .before .before .before .before .before .before .before .before .check-term .result) _ _ (c .before .before .before .before .before .before .before .before .check-term .ensures (S .Σ) (S .constants)) (c .before .before .before .before .enum-told .given .1) (c .before .before .before .first-unheld .result) _ (c .before .before .before .first-unheld .ensures (S .rs) (T .term) (S .reads) (T .term-is)) (c .before .unheld .given .1)
+returns-3 c =
+    let at-check-term = before-match2-keys1 (c .before .before .before .before .before) in
+    let at-ready2 = before-check-term at-check-term in
+    let at-prepare = before-ready2 at-ready2 in
+    let at-start = before-table (before-prepare at-prepare) in
+    let S = passed at-ready2 in
+    let T = typed (c .before .before .before .before) in
+    check-unheld (lent-here at-start) (at-start .args .register .now) (at-prepare .prepare .last .1 .1 .1 .0) (at-start .args .term .now)
+    (at-prepare .prepare .result) (at-prepare .prepare .ensures) (at-ready2 .ready2 .given .0 .0) (passed at-ready2) _
+    (at-check-term .check-term .result) _ _ (at-check-term .check-term .ensures (S .Σ) (S .constants))
+    (c .before .before .before .before .enum-told .given .1) (c .before .before .before .first-unheld .result) _
+    (c .before .before .before .first-unheld .ensures (S .rs) (T .term) (S .reads) (T .term-is)) (c .before .unheld .given .1)
 
 same-length-4 : tie.Need-same-length-4
 same-length-4 c = search needs
 
 returns-4 : tie.Need-returns-4
 unfolding typed
-returns-4 c = let S = passed (c .before .before .before .before .before .before .before .before .before .before .before) in let T = typed (c .before .before .before) in check-held (lent-here (c .before .before .before .before .before .before .before .before .before .before .before .before .before .before .before .before .before .before .before .before .before .before .before)) (c .before .before .before .before .before .before .before .before .before .before .before .before .before .before .before .before .before .before .before .before .before .before .before .args .register .now) (c .before .before .before .before .before .before .before .before .before .before .before .before .before .before .before .before .prepare .last .1 .1 .1 .0) (c .before .before .before .before .before .before .before .before .before .before .before .before .before .before .before .before .before .before .before .before .before .before .before .args .term .now) (c .before .before .before .before .before .before .before .before .before .before .before .before .before .before .before .before .prepare .result) (c .before .before .before .before .before .before .before .before .before .before .before .before .before .before .before .before .prepare .ensures) (c .before .before .before .before .before .before .before .before .before .before .before .ready2 .given .0 .0) (passed (c .before .before .before .before .before .before .before .before .before .before .before)) _ (c .before .before .before .before .before .before .before .check-term .result) _ _ (c .before .before .before .before .before .before .before .check-term .ensures (S .Σ) (S .constants)) (c .before .before .before .enum-told .given .1) (c .before .before .first-unheld .result) (c .before .before .first-unheld .ensures (S .rs) (T .term) (S .reads) (T .term-is)) (c .enum-told3 .given .1)
+returns-4 c =
+    let at-check-term = before-match2-keys1 (c .before .before .before .before) in
+    let at-ready2 = before-check-term at-check-term in
+    let at-prepare = before-ready2 at-ready2 in
+    let at-start = before-table (before-prepare at-prepare) in
+    let S = passed at-ready2 in
+    let T = typed (c .before .before .before) in
+    check-held (lent-here at-start) (at-start .args .register .now) (at-prepare .prepare .last .1 .1 .1 .0) (at-start .args .term .now)
+    (at-prepare .prepare .result) (at-prepare .prepare .ensures) (at-ready2 .ready2 .given .0 .0) (passed at-ready2) _
+    (at-check-term .check-term .result) _ _ (at-check-term .check-term .ensures (S .Σ) (S .constants))
+    (c .before .before .before .enum-told .given .1) (c .before .before .first-unheld .result)
+    (c .before .before .first-unheld .ensures (S .rs) (T .term) (S .reads) (T .term-is)) (c .enum-told3 .given .1)
 
 pub judge-spec : {M : Type 1} → statement M
 judge-spec =

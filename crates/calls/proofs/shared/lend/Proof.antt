@@ -12,16 +12,32 @@ use Rattle.calls.proofs.shared.lengths.Reads as lengths-reads
 
 -- tests 1 and 2 passed
 fine : (c : tie.Else1) → Lengths (length (c .before .before .before .before .before .args .ws .now)) (c .before .before .before .before .before .args .register)
-fine c = lengths-fine (length (c .before .before .before .before .before .args .ws .now)) (c .before .before .before .before .before .args .register) (sym (c .if1 .left) ∙ c .before .lengths .ensures)
+fine c =
+    lengths-fine (length (c .before .before .before .before .before .args .ws .now)) (c .before .before .before .before .before .args .register)
+    (sym (c .if1 .left) ∙ c .before .lengths .ensures)
 
 lengths-requires : tie.Need-lengths-requires
 lengths-requires c κs = search needs
 
 returns : tie.Need-returns
-returns c = let s = c .before .before .before .before .before in opened-refused (lent-of (s .args .sig .now) (s .args .n) (length (s .args .ws .now))) (s .args .register) (s .args .table .now) (c .before .lengths .result) (c .before .lengths .ensures) (c .if1 .taken)
+returns c =
+    let s = c .before .before .before .before .before in
+    opened-refused (lent-of (s .args .sig .now) (s .args .n) (length (s .args .ws .now))) (s .args .register) (s .args .table .now)
+    (c .before .lengths .result) (c .before .lengths .ensures) (c .if1 .taken)
+
+-- ---- places, from a later one back to an earlier one
+
+abbrev before-else1 : tie.Else1 → tie.Start
+before-else1 c = c .before .before .before .before .before
+
+abbrev before-accept : tie.After-accept → tie.Else1
+before-accept c = c .before .before .before
 
 accept-requires : tie.Need-accept-requires
-accept-requires c κs = let L = fine (c .before .before) in record { entries = c .before .before .before .before .before .before .before .pre; workspace = L .workspace-fits }
+accept-requires c κs =
+    let at-else1 = c .before .before in
+    let at-start = before-else1 at-else1 in
+    let L = fine at-else1 in record { entries = at-start .pre; workspace = L .workspace-fits }
 
 same-length : tie.Need-same-length
 same-length c = search needs
@@ -30,7 +46,12 @@ same-length-2 : tie.Need-same-length-2
 same-length-2 c = search needs
 
 returns-2 : tie.Need-returns-2
-returns-2 c = let s = c .before .before .before .before .before .before .before .before .before .before .before .before in opened-as (lent-of (s .args .sig .now) (s .args .n) (length (s .args .ws .now))) (s .args .register) _ (c .before .before .before .before .accept .result) (fine (c .before .before .before .before .before .before .before)) (c .before .before .before .before .accept .ensures)
+returns-2 c =
+    let at-accept = c .before .before .before .before in
+    let at-else1 = before-accept at-accept in
+    let s = before-else1 at-else1 in
+    let a = s .args in
+    opened-as (lent-of (a .sig .now) (a .n) (length (a .ws .now))) (a .register) _ (at-accept .accept .result) (fine at-else1) (at-accept .accept .ensures)
 
 pub lend-spec : {M : Type 1} → statement M
 lend-spec =

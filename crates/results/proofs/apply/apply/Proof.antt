@@ -25,47 +25,107 @@ record Sizes (len plen n m next end C e : ℕ) : Type 0 where
   end-is : end ≡ next + e
   short : plen ≤ most-words
 
-sizes : (s : tie.Start) → Sizes (length (s .args .ws .now)) (length (s .args .proof .now)) (s .args .n) (s .args .m) (s .args .next) (s .args .end) (size (s .pre .C)) (size (s .pre .e))
+sizes : (s : tie.Start) →
+    Sizes (length (s .args .ws .now)) (length (s .args .proof .now)) (s .args .n) (s .args .m) (s .args .next) (s .args .end) (size (s .pre .C))
+    (size (s .pre .e))
 sizes s =
     let a = s .args in
     let p = s .pre in
     let k = function-size (a .proof .now) (a .ws .now) (a .at) (a .next) (a .n) (a .m) (a .end) (p .d) (p .C) (p .e) (p .E) (p .applies) in
     record { body = omega arith; small = p .small; room = p .room; argument = at-end (p .applies .here); end-is = p .applies .end-is; short = p .short }
 
+-- ---- places, from a later one back to an earlier one
+
+abbrev before-held : tie.After-held → tie.Start
+before-held c = c .before .before .before .before
+
+abbrev before-else2 : tie.Else2 → tie.After-held
+before-else2 c = c .before .before .before .before
+
+abbrev before-fill-into : tie.After-fill-into → tie.Else2
+before-fill-into c = c .before .before .before .before
+
+abbrev before-small2 : tie.After-small2 → tie.After-fill-into
+before-small2 c = c .before
+
+abbrev before-short : tie.After-short → tie.After-fill-into
+before-short c = c .before .before .before
+
+abbrev before-small3 : tie.After-small3 → tie.After-short
+before-small3 c = c .before .before
+
+abbrev before-fill-into2 : tie.After-fill-into2 → tie.After-small2
+before-fill-into2 c = c .before .before .before .before .before
+
+abbrev before-long : tie.After-long → tie.After-fill-into2
+before-long c = c .before .before .before
+
+abbrev before-large3 : tie.After-large3 → tie.After-long
+before-large3 c = c .before .before
+
 -- the words compared are the same
-agree : (c : tie.Else2) → take (1 + c .before .before .before .before .before .before .before .before .args .m - 1) (drop 1 (c .before .before .before .before .before .before .before .before .args .ws .now)) ≡ take (c .before .before .before .before .before .before .before .before .args .n + c .before .before .before .before .before .before .before .before .args .m - c .before .before .before .before .before .before .before .before .args .n) (drop (c .before .before .before .before .before .before .before .before .args .n) (c .before .before .before .before .before .before .before .before .args .ws .now))
+agree : (c : tie.Else2) →
+    let at-start = before-held (before-else2 c) in
+    let a = at-start .args in
+    take (1 + a .m - 1) (drop 1 (a .ws .now)) ≡ take (a .n + a .m - a .n) (drop (a .n) (a .ws .now))
 agree c = c .before .same .ensures .0 (not-false (c .before .same .result) (c .if2 .left))
 
 -- the body and the argument stand where filling reads them
-fillable : (c : tie.Else2) → Fillable (c .before .before .before .before .before .before .before .before .args .ws .now) (1 + c .before .before .before .before .before .before .before .before .args .m) 0 (take (c .before .before .before .before .before .before .before .before .args .end - c .before .before .before .before .before .before .before .before .args .next) (drop (c .before .before .before .before .before .before .before .before .args .next) (c .before .before .before .before .before .before .before .before .args .proof .now)))
+fillable : (c : tie.Else2) →
+    let at-start = before-held (before-else2 c) in
+    let a = at-start .args in
+    Fillable (a .ws .now) (1 + a .m) 0 (take (a .end - a .next) (drop (a .next) (a .proof .now)))
 fillable c =
-    let s = c .before .before .before .before .before .before .before .before in
+    let s = before-held (before-else2 c) in
     let a = s .args in
     let p = s .pre in
     let z = sizes s in
     let q = agree c in
     let i = argument-is (a .proof .now) (a .ws .now) (a .at) (a .next) (a .n) (a .m) (a .end) (p .d) (p .C) (p .e) (p .E) (p .applies) q in
     let l = size-is _ (p .e) i in
-    record { term = p .C; here = body-at (a .proof .now) (a .ws .now) (a .at) (a .next) (a .n) (a .m) (a .end) (p .d) (p .C) (p .e) (p .E) (p .applies) q; deep = omega (arith, z); filler = p .e; lends = i; short = omega (arith, l, z) }
+    record {
+      term = p .C;
+      here = body-at (a .proof .now) (a .ws .now) (a .at) (a .next) (a .n) (a .m) (a .end) (p .d) (p .C) (p .e) (p .E) (p .applies) q;
+      deep = omega (arith, z);
+      filler = p .e;
+      lends = i;
+      short = omega (arith, l, z);
+    }
 
 -- what filling says, of any types that stand there
-filled : (c : tie.After-fill-into) (d C e E : Term) → Applies (c .before .before .before .before .before .before .before .before .before .before .before .before .args .proof .now) (c .before .before .before .before .before .before .before .before .before .before .before .before .args .ws .now) (c .before .before .before .before .before .before .before .before .before .before .before .before .args .next) (c .before .before .before .before .before .before .before .before .before .before .before .before .args .n) (c .before .before .before .before .before .before .before .before .before .before .before .before .args .m) (c .before .before .before .before .before .before .before .before .before .before .before .before .args .end) d C e E → FilledTo C (fillAt 0 e C) (1 + c .before .before .before .before .before .before .before .before .before .before .before .before .args .m) (replicate 32 0) 0 (c .fill-into .last .1 .1 .1 .1 .0) (c .fill-into .result)
+filled : (c : tie.After-fill-into) (d C e E : Term) →
+    let at-start = before-held (before-else2 (before-fill-into c)) in
+    let a = at-start .args in
+    Applies (a .proof .now) (a .ws .now) (a .next) (a .n) (a .m) (a .end) d C e E → FilledTo C (fillAt 0 e C) (1 + a .m) (replicate 32 0) 0
+    (c .fill-into .last .1 .1 .1 .1 .0) (c .fill-into .result)
 filled c d C e E j =
-    let a = c .before .before .before .before .before .before .before .before .before .before .before .before .args in
-    let q = agree (c .before .before .before .before) in
-    c .fill-into .ensures C e (body-at (a .proof .now) (a .ws .now) (a .at) (a .next) (a .n) (a .m) (a .end) d C e E j q) (argument-is (a .proof .now) (a .ws .now) (a .at) (a .next) (a .n) (a .m) (a .end) d C e E j q)
+    let at-else2 = before-fill-into c in
+    let at-start = before-held (before-else2 at-else2) in
+    let a = at-start .args in
+    let q = agree at-else2 in
+    c .fill-into .ensures C e (body-at (a .proof .now) (a .ws .now) (a .at) (a .next) (a .n) (a .m) (a .end) d C e E j q)
+    (argument-is (a .proof .now) (a .ws .now) (a .at) (a .next) (a .n) (a .m) (a .end) d C e E j q)
 
-filled-long : (c : tie.After-fill-into2) (d C e E : Term) → Applies (c .before .before .before .before .before .before .before .before .before .before .before .before .before .before .before .before .before .before .args .proof .now) (c .before .before .before .before .before .before .before .before .before .before .before .before .before .before .before .before .before .before .args .ws .now) (c .before .before .before .before .before .before .before .before .before .before .before .before .before .before .before .before .before .before .args .next) (c .before .before .before .before .before .before .before .before .before .before .before .before .before .before .before .before .before .before .args .n) (c .before .before .before .before .before .before .before .before .before .before .before .before .before .before .before .before .before .before .args .m) (c .before .before .before .before .before .before .before .before .before .before .before .before .before .before .before .before .before .before .args .end) d C e E → FilledTo C (fillAt 0 e C) (1 + c .before .before .before .before .before .before .before .before .before .before .before .before .before .before .before .before .before .before .args .m) (replicate most-type-words 0) 0 (c .fill-into2 .last .1 .1 .1 .1 .0) (c .fill-into2 .result)
+filled-long : (c : tie.After-fill-into2) (d C e E : Term) →
+    let at-start = before-held (before-else2 (before-fill-into (before-small2 (before-fill-into2 c)))) in
+    let a = at-start .args in
+    Applies (a .proof .now) (a .ws .now) (a .next) (a .n) (a .m) (a .end) d C e E → FilledTo C (fillAt 0 e C) (1 + a .m) (replicate most-type-words 0)
+    0 (c .fill-into2 .last .1 .1 .1 .1 .0) (c .fill-into2 .result)
 filled-long c d C e E j =
-    let a = c .before .before .before .before .before .before .before .before .before .before .before .before .before .before .before .before .before .before .args in
-    let q = agree (c .before .before .before .before .before .before .before .before .before .before) in
-    c .fill-into2 .ensures C e (body-at (a .proof .now) (a .ws .now) (a .at) (a .next) (a .n) (a .m) (a .end) d C e E j q) (argument-is (a .proof .now) (a .ws .now) (a .at) (a .next) (a .n) (a .m) (a .end) d C e E j q)
+    let at-else2 = before-fill-into (before-small2 (before-fill-into2 c)) in
+    let at-start = before-held (before-else2 at-else2) in
+    let a = at-start .args in
+    let q = agree at-else2 in
+    c .fill-into2 .ensures C e (body-at (a .proof .now) (a .ws .now) (a .at) (a .next) (a .n) (a .m) (a .end) d C e E j q)
+    (argument-is (a .proof .now) (a .ws .now) (a .at) (a .next) (a .n) (a .m) (a .end) d C e E j q)
 
 add-body : tie.Need-add-body
 add-body c = search needs
 
 returns : tie.Need-returns
-returns c = let a = c .before .before .before .args in λ d C e E j. apply-short (a .proof .now) (a .ws .now) (a .at) (a .next) (a .n) (a .m) (a .end) d C e E j (c .if1 .taken)
+returns c =
+    let a = c .before .before .before .args in
+    λ d C e E j. apply-short (a .proof .now) (a .ws .now) (a .at) (a .next) (a .n) (a .m) (a .end) d C e E j (c .if1 .taken)
 
 sub-same : tie.Need-sub-same
 sub-same c = search needs
@@ -99,11 +159,15 @@ same-length c = search needs
 
 returns-2 : tie.Need-returns-2
 returns-2 c =
-    let a = c .before .before .before .before .before .before .before .before .args in
-    λ d C e E j. apply-differs (a .proof .now) (a .ws .now) (a .at) (a .next) (a .n) (a .m) (a .end) d C e E j (c .before .same .result) (c .if2 .taken) (c .before .same .ensures .1)
+    let at-start = before-held (c .before .before .before .before) in
+    let a = at-start .args in
+    λ d C e E j. apply-differs (a .proof .now) (a .ws .now) (a .at) (a .next) (a .n) (a .m) (a .end) d C e E j (c .before .same .result)
+    (c .if2 .taken) (c .before .same .ensures .1)
 
 mul-filler : tie.Need-mul-filler
-mul-filler c = let z = sizes (c .before .before .before .before .before .before .before .before) in omega arith
+mul-filler c =
+    let at-start = before-held (before-else2 c) in
+    let z = sizes at-start in omega arith
 
 sub-filler : tie.Need-sub-filler
 sub-filler c = search needs
@@ -112,7 +176,9 @@ part-filler-start : tie.Need-part-filler-start
 part-filler-start c = search needs
 
 part-filler-end : tie.Need-part-filler-end
-part-filler-end c = let z = sizes (c .before .before .before .before .before .before .before .before) in omega (arith, z .argument)
+part-filler-end c =
+    let at-start = before-held (before-else2 c) in
+    let z = sizes at-start in omega (arith, z .argument)
 
 slice-aggregate-fill-into : tie.Need-slice-aggregate-fill-into
 slice-aggregate-fill-into c = search needs
@@ -128,12 +194,14 @@ slice-aggregate-copy c = search needs
 
 copy-requires : tie.Need-copy-requires
 copy-requires c κs =
-    let s = c .before .before .before .before .before .before .before .before .before .before .before .before .before .before .before .before .before .before in
+    let at-short = c .before .before .before in
+    let at-fill-into = before-short at-short in
+    let s = before-held (before-else2 (before-fill-into at-fill-into)) in
     let p = s .pre in
-    let f = filled (c .before .before .before .before .before .before) (p .d) (p .C) (p .e) (p .E) (p .applies) in
-    let was = done-is (p .C) (fillAt 0 (p .e) (p .C)) (1 + s .args .m) 0 _ (f .answer) _ _ (c .before .before .before .short .given .1) in
-    let w : c .before .before .before .short .given .0 .1 .0 ≤ 32 = was .fits in
-    let k = c .before .before .before .before .before .before .fill-into .kept .1 .1 .1 .1 .0 in
+    let f = filled at-fill-into (p .d) (p .C) (p .e) (p .E) (p .applies) in
+    let was = done-is (p .C) (fillAt 0 (p .e) (p .C)) (1 + s .args .m) 0 _ (f .answer) _ _ (at-short .short .given .1) in
+    let w : at-short .short .given .0 .1 .0 ≤ 32 = was .fits in
+    let k = at-fill-into .fill-into .kept .1 .1 .1 .1 .0 in
     let z = sizes s in
     (omega (arith, w, k), omega (arith, w, z))
 
@@ -142,8 +210,13 @@ same-length-2 c = search needs
 
 returns-3 : tie.Need-returns-3
 returns-3 c =
-    let a = c .before .before .before .before .before .before .before .before .before .before .before .before .before .before .before .before .before .before .before .before .before .args in
-    λ d C e E j. apply-done (a .proof .now) (a .ws .now) (a .at) (a .next) (a .n) (a .m) (a .end) d C e E j (agree (c .before .before .before .before .before .before .before .before .before .before .before .before .before)) _ _ _ (filled (c .before .before .before .before .before .before .before .before .before) d C e E j) (omega arith) _ _ (c .before .before .before .before .before .before .short .given .0 .1 .0) (c .before .before .before .before .before .before .short .given .1) (c .before .before .copy .ensures)
+    let at-short = before-small3 (c .before .before .before .before) in
+    let at-fill-into = before-short at-short in
+    let at-else2 = before-fill-into at-fill-into in
+    let at-start = before-held (before-else2 at-else2) in
+    let a = at-start .args in
+    λ d C e E j. apply-done (a .proof .now) (a .ws .now) (a .at) (a .next) (a .n) (a .m) (a .end) d C e E j (agree at-else2) _ _ _
+    (filled at-fill-into d C e E j) (omega arith) _ _ (at-short .short .given .0 .1 .0) (at-short .short .given .1) (c .before .before .copy .ensures)
 
 enum-told : tie.Need-enum-told
 enum-told c = search needs
@@ -152,7 +225,9 @@ slice-aggregate-fill-into-2 : tie.Need-slice-aggregate-fill-into-2
 slice-aggregate-fill-into-2 c = search needs
 
 fill-into-requires-2 : tie.Need-fill-into-requires-2
-fill-into-requires-2 c κs = (omega arith, fillable (c .before .before .before .before .before .before .before .before .before))
+fill-into-requires-2 c κs =
+    let at-else2 = before-fill-into (c .before .before .before .before .before) in
+    (omega arith, fillable at-else2)
 
 enum-known-long : tie.Need-enum-known-long
 enum-known-long c = search needs
@@ -165,20 +240,26 @@ same-length-3 c = search needs
 
 returns-4 : tie.Need-returns-4
 returns-4 c =
-    let a = c .before .before .before .before .before .before .before .before .before .before .before .before .before .before .before .before .before .before .before .before .before .args in
-    λ d C e E j. apply-over (a .proof .now) (a .ws .now) (a .at) (a .next) (a .n) (a .m) (a .end) d C e E j (agree (c .before .before .before .before .before .before .before .before .before .before .before .before .before)) _ _ _ (filled-long (c .before .before .before) d C e E j) refl (c .enum-told2 .given .1)
+    let at-fill-into2 = c .before .before .before in
+    let at-else2 = before-fill-into (before-small2 (before-fill-into2 at-fill-into2)) in
+    let at-start = before-held (before-else2 at-else2) in
+    let a = at-start .args in
+    λ d C e E j. apply-over (a .proof .now) (a .ws .now) (a .at) (a .next) (a .n) (a .m) (a .end) d C e E j (agree at-else2) _ _ _
+    (filled-long at-fill-into2 d C e E j) refl (c .enum-told2 .given .1)
 
 slice-aggregate-copy-2 : tie.Need-slice-aggregate-copy-2
 slice-aggregate-copy-2 c = search needs
 
 copy-requires-2 : tie.Need-copy-requires-2
 copy-requires-2 c κs =
-    let s = c .before .before .before .before .before .before .before .before .before .before .before .before .before .before .before .before .before .before .before .before .before .before .before .before in
+    let at-long = c .before .before .before in
+    let at-fill-into2 = before-long at-long in
+    let s = before-held (before-else2 (before-fill-into (before-small2 (before-fill-into2 at-fill-into2)))) in
     let p = s .pre in
-    let f = filled-long (c .before .before .before .before .before .before) (p .d) (p .C) (p .e) (p .E) (p .applies) in
-    let was = done-is (p .C) (fillAt 0 (p .e) (p .C)) (1 + s .args .m) 0 _ (f .answer) _ _ (c .before .before .before .long .given .1) in
-    let w : c .before .before .before .long .given .0 .1 .0 ≤ most-type-words = was .fits in
-    let k = c .before .before .before .before .before .before .fill-into2 .kept .1 .1 .1 .1 .0 in
+    let f = filled-long at-fill-into2 (p .d) (p .C) (p .e) (p .E) (p .applies) in
+    let was = done-is (p .C) (fillAt 0 (p .e) (p .C)) (1 + s .args .m) 0 _ (f .answer) _ _ (at-long .long .given .1) in
+    let w : at-long .long .given .0 .1 .0 ≤ most-type-words = was .fits in
+    let k = at-fill-into2 .fill-into2 .kept .1 .1 .1 .1 .0 in
     let z = sizes s in
     (omega (arith, w, k), omega (arith, w, z))
 
@@ -187,8 +268,14 @@ same-length-4 c = search needs
 
 returns-5 : tie.Need-returns-5
 returns-5 c =
-    let a = c .before .before .before .before .before .before .before .before .before .before .before .before .before .before .before .before .before .before .before .before .before .before .before .before .before .before .before .args in
-    λ d C e E j. apply-done (a .proof .now) (a .ws .now) (a .at) (a .next) (a .n) (a .m) (a .end) d C e E j (agree (c .before .before .before .before .before .before .before .before .before .before .before .before .before .before .before .before .before .before .before)) _ _ _ (filled-long (c .before .before .before .before .before .before .before .before .before) d C e E j) (omega arith) _ _ (c .before .before .before .before .before .before .long .given .0 .1 .0) (c .before .before .before .before .before .before .long .given .1) (c .before .before .copy2 .ensures)
+    let at-long = before-large3 (c .before .before .before .before) in
+    let at-fill-into2 = before-long at-long in
+    let at-else2 = before-fill-into (before-small2 (before-fill-into2 at-fill-into2)) in
+    let at-start = before-held (before-else2 at-else2) in
+    let a = at-start .args in
+    λ d C e E j. apply-done (a .proof .now) (a .ws .now) (a .at) (a .next) (a .n) (a .m) (a .end) d C e E j (agree at-else2) _ _ _
+    (filled-long at-fill-into2 d C e E j) (omega arith) _ _ (at-long .long .given .0 .1 .0) (at-long .long .given .1)
+    (c .before .before .copy2 .ensures)
 
 pub apply-spec : {M : Type 1} → statement M
 apply-spec =

@@ -31,7 +31,10 @@ sizes s =
     record { some = omega arith; inside = omega arith; short = p .short; room = p .room }
 
 -- what the test says, of any Sign that stands there
-fine : (c : tie.After-front-is) (a : ℕ) (q s : Term) → Signs (c .before .before .before .before .args .proof .now) (c .before .before .before .before .args .ws .now) (c .before .before .before .before .args .at) (c .before .before .before .before .args .n) (c .before .before .before .before .args .end) a q s → c .front-is .result ≡ same s P
+fine : (c : tie.After-front-is) (a : ℕ) (q s : Term) →
+    Signs (c .before .before .before .before .args .proof .now) (c .before .before .before .before .args .ws .now)
+    (c .before .before .before .before .args .at) (c .before .before .before .before .args .n) (c .before .before .before .before .args .end) a q s →
+    c .front-is .result ≡ same s P
 fine c a q s j = c .front-is .ensures s propA (j .type) refl tt
 
 mul-front-is : tie.Need-mul-front-is
@@ -57,10 +60,28 @@ add-words c = let z = sizes (c .before .before .before .before .before) in omega
 same-length-2 : tie.Need-same-length-2
 same-length-2 c = search needs
 
+-- ---- places, from a later one back to an earlier one
+
+abbrev before-front-is : tie.After-front-is → tie.Start
+before-front-is c = c .before .before .before .before
+
+abbrev before-else1 : tie.Else1 → tie.After-front-is
+before-else1 c = c .before
+
+abbrev before-else2 : tie.Else2 → tie.Else1
+before-else2 c = c .before
+
+abbrev before-payload-of : tie.After-payload-of → tie.Else2
+before-payload-of c = c .before .before
+
 returns-2 : tie.Need-returns-2
 returns-2 c =
-    let a = c .before .before .before .before .before .before .args in
-    λ x q s j. sign-long (a .proof .now) (a .ws .now) (a .at) (a .n) (a .end) x q s j (c .before .before .front-is .result) (fine (c .before .before) x q s j) (c .before .if1 .left) (omega (arith, c .if2 .taken))
+    let at-else1 = c .before in
+    let at-front-is = before-else1 at-else1 in
+    let at-start = before-front-is at-front-is in
+    let a = at-start .args in
+    λ x q s j. sign-long (a .proof .now) (a .ws .now) (a .at) (a .n) (a .end) x q s j (at-front-is .front-is .result) (fine at-front-is x q s j)
+    (at-else1 .if1 .left) (omega (arith, c .if2 .taken))
 
 mul-ws : tie.Need-mul-ws
 mul-ws c = search needs
@@ -72,10 +93,14 @@ mul-ws-2 : tie.Need-mul-ws-2
 mul-ws-2 c = search needs
 
 mul-payload-of : tie.Need-mul-payload-of
-mul-payload-of c = let z = sizes (c .before .before .before .before .before .before) in omega arith
+mul-payload-of c =
+    let at-start = before-front-is (before-else1 (before-else2 c)) in
+    let z = sizes at-start in omega arith
 
 shared-slice-read-payload-of : tie.Need-shared-slice-read-payload-of
-shared-slice-read-payload-of c = let z = sizes (c .before .before .before .before .before .before .before) in omega arith
+shared-slice-read-payload-of c =
+    let at-start = before-front-is (before-else1 (before-else2 (c .before))) in
+    let z = sizes at-start in omega arith
 
 payload-of-requires : tie.Need-payload-of-requires
 payload-of-requires c κs = search needs
@@ -84,24 +109,40 @@ add-ws : tie.Need-add-ws
 add-ws c = search needs
 
 slice-write-ws-2 : tie.Need-slice-write-ws-2
-slice-write-ws-2 c = let z = sizes (c .before .before .before .before .before .before .before .before) in let l = length-set (c .before .before .before .before .before .before .before .before .args .ws .now) 0 (opWord saysO) in omega (arith, l, z)
+slice-write-ws-2 c =
+    let at-start = before-front-is (before-else1 (before-else2 (before-payload-of c))) in
+    let z = sizes at-start in let l = length-set (at-start .args .ws .now) 0 (opWord saysO) in omega (arith, l, z)
 
 add-copy : tie.Need-add-copy
-add-copy c = let z = sizes (c .before .before .before .before .before .before .before .before) in omega arith
+add-copy c =
+    let at-start = before-front-is (before-else1 (before-else2 (before-payload-of c))) in
+    let z = sizes at-start in omega arith
 
 sub-copy : tie.Need-sub-copy
-sub-copy c = let z = sizes (c .before .before .before .before .before .before .before .before) in omega arith
+sub-copy c =
+    let at-start = before-front-is (before-else1 (before-else2 (before-payload-of c))) in
+    let z = sizes at-start in omega arith
 
 copy-requires : tie.Need-copy-requires
-copy-requires c κs = let z = sizes (c .before .before .before .before .before .before .before .before .before) in let w = c .before .before .before .if2 .left in (omega arith, simp length-set (omega (arith, z, w)))
+copy-requires c κs =
+    let at-else2 = c .before .before .before in
+    let at-start = before-front-is (before-else1 (before-else2 at-else2)) in
+    let z = sizes at-start in let w = at-else2 .if2 .left in (omega arith, simp length-set (omega (arith, z, w)))
 
 same-length-3 : tie.Need-same-length-3
 same-length-3 c = c .before .before .copy .kept .1 .1 .1 .0 ∙ simp length-set
 
 returns-3 : tie.Need-returns-3
 returns-3 c =
-    let a = c .before .before .before .before .before .before .before .before .before .before .before .before .args in
-    λ x q s j. sign-done (a .proof .now) (a .ws .now) (a .at) (a .n) (a .end) x q s j (c .before .before .before .before .before .before .before .before .front-is .result) (fine (c .before .before .before .before .before .before .before .before) x q s j) (c .before .before .before .before .before .before .before .if1 .left) _ (c .before .before .before .before .payload-of .result) (c .before .before .before .before .payload-of .ensures) (c .before .before .before .before .before .before .if2 .left) (omega (arith, c .before .before .before .before .before .before .before .before .before .before .before .before .pre .room)) (c .before .before .copy .ensures)
+    let at-payload-of = c .before .before .before .before in
+    let at-else2 = before-payload-of at-payload-of in
+    let at-else1 = before-else2 at-else2 in
+    let at-front-is = before-else1 at-else1 in
+    let at-start = before-front-is at-front-is in
+    let a = at-start .args in
+    λ x q s j. sign-done (a .proof .now) (a .ws .now) (a .at) (a .n) (a .end) x q s j (at-front-is .front-is .result) (fine at-front-is x q s j)
+    (at-else1 .if1 .left) _ (at-payload-of .payload-of .result) (at-payload-of .payload-of .ensures) (at-else2 .if2 .left)
+    (omega (arith, at-start .pre .room)) (c .before .before .copy .ensures)
 
 pub sign-spec : {M : Type 1} → statement M
 sign-spec =

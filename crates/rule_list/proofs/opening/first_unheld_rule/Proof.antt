@@ -34,13 +34,35 @@ kind-requires c κs = search needs
 add-start : tie.Need-add-start Inv-loop μ-loop
 add-start c = search needs
 
+-- ---- places, from a later one back to an earlier one
+
+abbrev before-loop : tie.At-loop Inv-loop μ-loop → tie.Start Inv-loop μ-loop
+before-loop c = c .before .before .before
+
+abbrev before-in-loop : tie.In-loop Inv-loop μ-loop → tie.At-loop Inv-loop μ-loop
+before-in-loop c = c .before
+
+abbrev before-kind : tie.After-kind Inv-loop μ-loop → tie.In-loop Inv-loop μ-loop
+before-kind c = c .before .before
+
+abbrev before-skip : tie.After-skip Inv-loop μ-loop → tie.After-kind Inv-loop μ-loop
+before-skip c = c .before .before
+
 -- a Sign stands at the word
-signed : (c : tie.Then1 Inv-loop μ-loop) → Stands (c .before .before .before .before .before .before .before .args .term .now) (c .before .before .before .before .loop .i + 1)
+signed : (c : tie.Then1 Inv-loop μ-loop) →
+    let at-loop = before-in-loop (before-kind (c .before)) in
+    let at-start = before-loop at-loop in
+    Stands (at-start .args .term .now) (at-loop .loop .i + 1)
 signed c =
-    let s = c .before .before .before .before .before .before .before in
-    let l = c .before .before .before .before .loop in
+    let at-kind = c .before in
+    let in-loop = before-kind at-kind in
+    let at-loop = before-in-loop in-loop in
+    let s = before-loop at-loop in
+    let a = s .args in
+    let l = at-loop .loop in
     let p = s .pre in
-    scanning-sign (Gives (s .args .rules .now)) (s .args .term .now) (l .i) (rules-of (s .args .rules .now)) refl (p .1) (l .inv .1) (c .before .before .before .loop-test .taken) (sym (c .before .kind .ensures) ∙ c .if1 .taken)
+    scanning-sign (Gives (a .rules .now)) (a .term .now) (l .i) (rules-of (a .rules .now)) refl (p .1) (l .inv .1) (in-loop .loop-test .taken)
+    (sym (at-kind .kind .ensures) ∙ c .if1 .taken)
 
 skip-requires : tie.Need-skip-requires Inv-loop μ-loop
 skip-requires c κs = signed c
@@ -76,9 +98,18 @@ rule-held-requires c κs = search needs
 
 returns : tie.Need-returns Inv-loop μ-loop
 returns c =
-    let a = c .before .before .before .before .before .before .before .before .before .before .before .before .args in
-    let l = c .before .before .before .before .before .before .before .before .before .loop in
-    λ t. scanning-found (Gives (a .rules .now)) (a .term .now) (l .i) (c .before .before .before .payload-of .result) (c .before .before .before .before .skip .result) (c .before .rule-held .result) (l .inv .1) (c .before .before .before .before .before .before .before .before .loop-test .taken) (sym (c .before .before .before .before .before .before .kind .ensures) ∙ c .before .before .before .before .before .if1 .taken) (c .before .before .before .payload-of .ensures) (c .before .before .before .before .skip .ensures) (given-held (a .rules .now) _ _ _ (c .before .rule-held .ensures)) (not-true _ (c .if2 .taken)) (rules-of (a .rules .now)) t refl
+    let at-skip = c .before .before .before .before in
+    let at-kind = before-skip at-skip in
+    let in-loop = before-kind at-kind in
+    let at-loop = before-in-loop in-loop in
+    let at-start = before-loop at-loop in
+    let a = at-start .args in
+    let l = at-loop .loop in
+    λ t. scanning-found (Gives (a .rules .now)) (a .term .now) (l .i) (c .before .before .before .payload-of .result) (at-skip .skip .result)
+    (c .before .rule-held .result) (l .inv .1) (in-loop .loop-test .taken)
+    (sym (at-kind .kind .ensures) ∙ c .before .before .before .before .before .if1 .taken) (c .before .before .before .payload-of .ensures)
+    (at-skip .skip .ensures) (given-held (a .rules .now) _ _ _ (c .before .rule-held .ensures)) (not-true _ (c .if2 .taken))
+    (rules-of (a .rules .now)) t refl
 
 add-i : tie.Need-add-i Inv-loop μ-loop
 add-i c = search needs
@@ -88,11 +119,24 @@ loop-less c = search needs
 
 loop-again : tie.Need-loop-again Inv-loop μ-loop
 loop-again c =
-    let a = c .before .before .before .before .before .before .before .args in
-    let l = c .before .before .before .before .loop in
+    let at-kind = c .before in
+    let in-loop = before-kind at-kind in
+    let at-loop = before-in-loop in-loop in
+    let at-start = before-loop at-loop in
+    let a = at-start .args in
+    let l = at-loop .loop in
     ⊎-elim
-    (λ w. (omega arith, scanning-next (Gives (a .rules .now)) (a .term .now) (l .i) (w .2 .result) (w .1 .result) (w .4 .result) (l .inv .1) (c .before .before .before .loop-test .taken) (sym (c .before .kind .ensures) ∙ w .0 .taken) (w .2 .ensures) (w .1 .ensures) (given-held (a .rules .now) _ _ _ (w .4 .ensures)) (not-false _ (w .5 .left))))
-    (λ w. (omega arith, scanning-other (Gives (a .rules .now)) (a .term .now) (l .i) (l .inv .1) (c .before .before .before .loop-test .taken) (λ e. w .left (c .before .kind .ensures ∙ e))))
+    (λ w. (
+      omega arith,
+      scanning-next (Gives (a .rules .now)) (a .term .now) (l .i) (w .2 .result) (w .1 .result) (w .4 .result) (l .inv .1)
+          (in-loop .loop-test .taken) (sym (at-kind .kind .ensures) ∙ w .0 .taken) (w .2 .ensures) (w .1 .ensures)
+          (given-held (a .rules .now) _ _ _ (w .4 .ensures)) (not-false _ (w .5 .left)),
+    ))
+    (λ w. (
+      omega arith,
+      scanning-other (Gives (a .rules .now)) (a .term .now) (l .i) (l .inv .1) (in-loop .loop-test .taken)
+          (λ e. w .left (at-kind .kind .ensures ∙ e)),
+    ))
     (c .if1 .came)
 
 returns-2 : tie.Need-returns-2 Inv-loop μ-loop

@@ -41,7 +41,10 @@ add-end : tie.Need-add-end Inv-loop μ-loop
 add-end c = let w = within (c .before) in omega arith
 
 slice-aggregate-rule-held : tie.Need-slice-aggregate-rule-held Inv-loop μ-loop
-slice-aggregate-rule-held c = sym (length-take-le (c .before .before .before .loop .at) (c .before .before .before .before .before .args .rules .now) (c .before .before .before .loop .inv .0))
+slice-aggregate-rule-held c =
+    sym
+    (length-take-le (c .before .before .before .loop .at) (c .before .before .before .before .before .args .rules .now)
+    (c .before .before .before .loop .inv .0))
 
 mul-rule-held : tie.Need-mul-rule-held Inv-loop μ-loop
 mul-rule-held c = let w = within (c .before .before) in omega arith
@@ -64,29 +67,57 @@ part-rule-held-end c = let w = within (c .before .before .before) in omega arith
 rule-held-requires : tie.Need-rule-held-requires Inv-loop μ-loop
 rule-held-requires c κs = c .before .before .before .before .before .loop .inv .1 .whole
 
+-- ---- places, from a later one back to an earlier one
+
+abbrev before-loop : tie.At-loop Inv-loop μ-loop → tie.Start Inv-loop μ-loop
+before-loop c = c .before .before
+
+abbrev before-in-loop : tie.In-loop Inv-loop μ-loop → tie.At-loop Inv-loop μ-loop
+before-in-loop c = c .before
+
+abbrev before-shared-slice-known2 : tie.After-shared-slice-known2 Inv-loop μ-loop → tie.In-loop Inv-loop μ-loop
+before-shared-slice-known2 c = c .before
+
 add-total : tie.Need-add-total Inv-loop μ-loop
-add-total c = let b = c .before .before .before .before .before .before .before .loop .inv .1 .few in omega arith
+add-total c =
+    let at-loop = before-in-loop (before-shared-slice-known2 (c .before .before .before .before .before)) in
+    let b = at-loop .loop .inv .1 .few in omega arith
 
 add-total-2 : tie.Need-add-total-2 Inv-loop μ-loop
-add-total-2 c = let w = within (c .before .before .before .before .before .before) in let b = c .before .before .before .before .before .before .before .loop .inv .1 .few in omega arith
+add-total-2 c =
+    let in-loop = before-shared-slice-known2 (c .before .before .before .before .before) in
+    let at-loop = before-in-loop in-loop in
+    let w = within in-loop in let b = at-loop .loop .inv .1 .few in omega arith
 
 loop-less : tie.Need-loop-less Inv-loop μ-loop
 loop-less c = search needs
 
 loop-again : tie.Need-loop-again Inv-loop μ-loop
 loop-again c =
-    let r = c .before .before .before .before .before .before .before .before .before .args .rules .now in
-    let l = c .before .before .before .before .before .before .before .loop in
-    (within (c .before .before .before .before .before .before) .fits, counting-added r (l .at) (l .total) (l .inv .1) (c .before .before .before .before .before .before .loop-test .taken) (sym (c .before .rule-held .ensures) ∙ not-true _ (c .if1 .taken)))
+    let in-loop = before-shared-slice-known2 (c .before .before .before .before .before) in
+    let at-loop = before-in-loop in-loop in
+    let at-start = before-loop at-loop in
+    let r = at-start .args .rules .now in
+    let l = at-loop .loop in (
+      within in-loop .fits,
+      counting-added r (l .at) (l .total) (l .inv .1) (in-loop .loop-test .taken)
+          (sym (c .before .rule-held .ensures) ∙ not-true _ (c .if1 .taken)),
+    )
 
 loop-less-2 : tie.Need-loop-less-2 Inv-loop μ-loop
 loop-less-2 c = search needs
 
 loop-again-2 : tie.Need-loop-again-2 Inv-loop μ-loop
 loop-again-2 c =
-    let r = c .before .before .before .before .before .before .before .before .before .args .rules .now in
-    let l = c .before .before .before .before .before .before .before .loop in
-    (within (c .before .before .before .before .before .before) .fits, counting-held r (l .at) (l .total) (l .inv .1) (c .before .before .before .before .before .before .loop-test .taken) (sym (c .before .rule-held .ensures) ∙ not-false _ (c .if1 .left)))
+    let in-loop = before-shared-slice-known2 (c .before .before .before .before .before) in
+    let at-loop = before-in-loop in-loop in
+    let at-start = before-loop at-loop in
+    let r = at-start .args .rules .now in
+    let l = at-loop .loop in (
+      within in-loop .fits,
+      counting-held r (l .at) (l .total) (l .inv .1) (in-loop .loop-test .taken)
+          (sym (c .before .rule-held .ensures) ∙ not-false _ (c .if1 .left)),
+    )
 
 returns : tie.Need-returns Inv-loop μ-loop
 returns c = let l = c .before .loop in counting-end (c .before .before .before .args .rules .now) (l .at) (l .total) (l .inv .1) (omega arith)

@@ -18,7 +18,10 @@ loop-holds c = let s = c .before .before in seeking-start (s .args .rules .now) 
 
 -- the rule at hand stands whole in the list
 within : (c : tie.In-loop Inv-loop μ-loop) → Within (c .before .before .before .before .args .rules .now) (c .before .loop .at)
-within c = let a = c .before .before .before .before .args in let l = c .before .loop in seeking-within (a .rules .now) (l .at) (a .principal) (a .words .now) (l .inv) (c .loop-test .taken)
+within c =
+    let a = c .before .before .before .before .args in
+    let l = c .before .loop in
+    seeking-within (a .rules .now) (l .at) (a .principal) (a .words .now) (l .inv) (c .loop-test .taken)
 
 add-n : tie.Need-add-n Inv-loop μ-loop
 add-n c = let w = within c in omega arith
@@ -59,17 +62,42 @@ part-rule-states-end c = let w = within (c .before .before) in omega arith
 rule-states-requires : tie.Need-rule-states-requires Inv-loop μ-loop
 rule-states-requires c κs = search needs
 
+-- ---- places, from a later one back to an earlier one
+
+abbrev before-loop : tie.At-loop Inv-loop μ-loop → tie.Start Inv-loop μ-loop
+before-loop c = c .before .before .before
+
+abbrev before-in-loop : tie.In-loop Inv-loop μ-loop → tie.At-loop Inv-loop μ-loop
+before-in-loop c = c .before
+
 returns : tie.Need-returns Inv-loop μ-loop
-returns c = let a = c .before .before .before .before .before .before .before .before .before .args in let l = c .before .before .before .before .before .before .loop in seeking-found (a .rules .now) (l .at) (a .principal) (a .words .now) (l .inv) (c .before .before .before .before .before .loop-test .taken) (sym (c .before .rule-states .ensures) ∙ c .if1 .taken)
+returns c =
+    let in-loop = c .before .before .before .before .before in
+    let at-loop = before-in-loop in-loop in
+    let at-start = before-loop at-loop in
+    let a = at-start .args in
+    let l = at-loop .loop in
+    seeking-found (a .rules .now) (l .at) (a .principal) (a .words .now) (l .inv) (in-loop .loop-test .taken)
+    (sym (c .before .rule-states .ensures) ∙ c .if1 .taken)
 
 loop-less : tie.Need-loop-less Inv-loop μ-loop
 loop-less c = let w = within (c .before .before .before .before .before) in omega arith
 
 loop-again : tie.Need-loop-again Inv-loop μ-loop
-loop-again c = let a = c .before .before .before .before .before .before .before .before .before .args in let l = c .before .before .before .before .before .before .loop in seeking-turn (a .rules .now) (l .at) (a .principal) (a .words .now) (l .inv) (c .before .before .before .before .before .loop-test .taken) (sym (c .before .rule-states .ensures) ∙ c .if1 .left)
+loop-again c =
+    let in-loop = c .before .before .before .before .before in
+    let at-loop = before-in-loop in-loop in
+    let at-start = before-loop at-loop in
+    let a = at-start .args in
+    let l = at-loop .loop in
+    seeking-turn (a .rules .now) (l .at) (a .principal) (a .words .now) (l .inv) (in-loop .loop-test .taken)
+    (sym (c .before .rule-states .ensures) ∙ c .if1 .left)
 
 returns-2 : tie.Need-returns-2 Inv-loop μ-loop
-returns-2 c = let a = c .before .before .before .before .args in let l = c .before .loop in seeking-end (a .rules .now) (l .at) (a .principal) (a .words .now) (l .inv) (omega arith)
+returns-2 c =
+    let a = c .before .before .before .before .args in
+    let l = c .before .loop in
+    seeking-end (a .rules .now) (l .at) (a .principal) (a .words .now) (l .inv) (omega arith)
 
 pub rule-held-spec : {M : Type 1} → statement M
 rule-held-spec =

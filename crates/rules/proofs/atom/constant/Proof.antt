@@ -11,10 +11,15 @@ use Rattle.rules.proofs.atom.constant.Statement.{statement}
 use Rattle.rules.proofs.atom.constant.Tie as tie
 
 -- where the type stands, by any signature that is declared, and by the one that `requires` brought
-here-for : (c : tie.Else1) (Σ : List Term) → Declared (c .before .before .before .before .args .sig .now) (c .before .before .before .before .args .table .now) Σ → ConstantAt (c .before .before .before .before .args .sig .now) (c .before .before .before .before .args .table .now) (c .before .before .before .before .args .n) Σ
+here-for : (c : tie.Else1) (Σ : List Term) →
+    Declared (c .before .before .before .before .args .sig .now) (c .before .before .before .before .args .table .now) Σ →
+    ConstantAt (c .before .before .before .before .args .sig .now) (c .before .before .before .before .args .table .now)
+    (c .before .before .before .before .args .n) Σ
 here-for c Σ d = let s = c .before .before .before .before in constant-at (s .args .n) (c .if1 .left) d
 
-abbrev here : (c : tie.Else1) → ConstantAt (c .before .before .before .before .args .sig .now) (c .before .before .before .before .args .table .now) (c .before .before .before .before .args .n) (c .before .before .before .before .pre .Σ)
+abbrev here : (c : tie.Else1) →
+    ConstantAt (c .before .before .before .before .args .sig .now) (c .before .before .before .before .args .table .now)
+    (c .before .before .before .before .args .n) (c .before .before .before .before .pre .Σ)
 here c = here-for c (c .before .before .before .before .pre .Σ) (c .before .before .before .before .pre .declared)
 
 returns : tie.Need-returns
@@ -40,18 +45,30 @@ mul-words c = let h = here (c .before) in omega (arith, c .before .before .befor
 shared-slice-read-words : tie.Need-shared-slice-read-words
 shared-slice-read-words c = let h = here (c .before .before) in omega (arith, h .behind, at-end (h .here))
 
+-- ---- places, from a later one back to an earlier one
+
+abbrev before-else1 : tie.Else1 → tie.Start
+before-else1 c = c .before .before .before .before
+
+abbrev before-copy : tie.After-copy → tie.Else1
+before-copy c = c .before .before .before .before .before
+
 cast-words : tie.Need-cast-words
-cast-words c = let s = c .before .before .before .before .before .before in omega (arith, c .shared-slice-known4 .given (getD (s .args .table .now) (s .args .n) 0 - 1))
+cast-words c =
+    let s = before-else1 (c .before .before) in
+    omega (arith, c .shared-slice-known4 .given (getD (s .args .table .now) (s .args .n) 0 - 1))
 
 returns-2 : tie.Need-returns-2
 returns-2 c =
-    let s = c .before .before .before .before .before .before .before in
-    λ Σ d. constant-long (s .args .ws .now) (s .args .at) (here-for (c .before .before .before) Σ d) (c .if2 .taken)
+    let at-else1 = c .before .before .before in
+    let s = before-else1 at-else1 in
+    λ Σ d. constant-long (s .args .ws .now) (s .args .at) (here-for at-else1 Σ d) (c .if2 .taken)
 
 copy-requires : tie.Need-copy-requires
 copy-requires c κs =
-    let s = c .before .before .before .before .before .before .before .before in
-    let h = here (c .before .before .before .before) in
+    let at-else1 = c .before .before .before .before in
+    let s = before-else1 at-else1 in
+    let h = here at-else1 in
     let w = h .words in
     omega (arith, at-end (h .here), s .pre .room, c .before .if2 .left)
 
@@ -63,8 +80,10 @@ same-length c = search needs
 
 returns-3 : tie.Need-returns-3
 returns-3 c =
-    let s = c .before .before .before .before .before .before .before .before .before .before .before in
-    λ Σ d. constant-copied (s .args .ws .now) (s .args .at) (here-for (c .before .before .before .before .before .before .before) Σ d) (c .before .before .before .before .if2 .left) (c .before .before .copy .ensures)
+    let at-copy = c .before .before in
+    let at-else1 = before-copy at-copy in
+    let s = before-else1 at-else1 in
+    λ Σ d. constant-copied (s .args .ws .now) (s .args .at) (here-for at-else1 Σ d) (c .before .before .before .before .if2 .left) (at-copy .copy .ensures)
 
 pub constant-spec : {M : Type 1} → statement M
 constant-spec =

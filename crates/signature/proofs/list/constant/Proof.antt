@@ -19,12 +19,41 @@ lent sig at =
     let e : at + 1 + getD sig at 0 - (at + 1) ≡ getD sig at 0 = omega arith in
     ap (λ (i : ℕ). take i (drop (at + 1) sig)) e
 
+-- ---- places, from a later one back to an earlier one
+
+abbrev before-else1 : tie.Else1 → tie.Start
+before-else1 c = c .before .before .before .before .before
+
+abbrev before-else2 : tie.Else2 → tie.Else1
+before-else2 c = c .before
+
+abbrev before-else3 : tie.Else3 → tie.Else2
+before-else3 c = c .before
+
+abbrev before-common : tie.After-common → tie.Else3
+before-common c = c .before .before
+
+abbrev before-check-term : tie.After-check-term → tie.After-common
+before-check-term c = c .before .before .before .before
+
+abbrev before-ws : tie.After-ws → tie.After-check-term
+before-ws c = c .before
+
 -- what the check of the constant's words tells
-judged : (c : tie.After-check-term) (Σ : List Term) → Constants-of (c .before .before .before .before .before .before .before .before .before .before .before .before .before .args .sig .now) (c .before .before .before .before .before .before .before .before .before .before .before .before .before .args .table .now) Σ
-    → Judged (typed-term Σ most-words most-nesting (take (getD (c .before .before .before .before .before .before .before .before .before .before .before .before .before .args .sig .now) (c .before .before .before .before .before .before .before .before .before .before .before .before .before .args .at) 0) (drop (c .before .before .before .before .before .before .before .before .before .before .before .before .before .args .at + 1) (c .before .before .before .before .before .before .before .before .before .before .before .before .before .args .sig .now)))) (length (take (c .before .before .before .before .before .before .before .before .before .before .before .before .before .args .at + 1 + getD (c .before .before .before .before .before .before .before .before .before .before .before .before .before .args .sig .now) (c .before .before .before .before .before .before .before .before .before .before .before .before .before .args .at) 0 - (c .before .before .before .before .before .before .before .before .before .before .before .before .before .args .at + 1)) (drop (c .before .before .before .before .before .before .before .before .before .before .before .before .before .args .at + 1) (c .before .before .before .before .before .before .before .before .before .before .before .before .before .args .sig .now)))) (c .check-term .last .1 .1 .1 .1 .1 .0) (c .check-term .result)
+judged : (c : tie.After-check-term) (Σ : List Term) →
+    let at-start = before-else1 (before-else2 (before-else3 (before-common (before-check-term c)))) in
+    let a = at-start .args in
+    Constants-of (a .sig .now) (a .table .now) Σ
+    → Judged (typed-term Σ most-words most-nesting (take (getD (a .sig .now) (a .at) 0) (drop (a .at + 1) (a .sig .now))))
+    (length (take (a .at + 1 + getD (a .sig .now) (a .at) 0 - (a .at + 1)) (drop (a .at + 1) (a .sig .now)))) (c .check-term .last .1 .1 .1 .1 .1 .0)
+    (c .check-term .result)
 judged c Σ C =
-    let s = c .before .before .before .before .before .before .before .before .before .before .before .before .before .args in
-    subst (λ (l : List ℕ). Judged (typed-term Σ most-words most-nesting l) (length (take (s .at + 1 + getD (s .sig .now) (s .at) 0 - (s .at + 1)) (drop (s .at + 1) (s .sig .now)))) (c .check-term .last .1 .1 .1 .1 .1 .0) (c .check-term .result)) (lent (s .sig .now) (s .at)) (c .check-term .ensures Σ C)
+    let at-start = before-else1 (before-else2 (before-else3 (before-common (before-check-term c)))) in
+    let s = at-start .args in
+    subst
+    (λ (l : List ℕ). Judged (typed-term Σ most-words most-nesting l)
+    (length (take (s .at + 1 + getD (s .sig .now) (s .at) 0 - (s .at + 1)) (drop (s .at + 1) (s .sig .now))))
+    (c .check-term .last .1 .1 .1 .1 .1 .0) (c .check-term .result)) (lent (s .sig .now) (s .at)) (c .check-term .ensures Σ C)
 
 mul-n : tie.Need-mul-n
 mul-n c = search needs
@@ -39,7 +68,9 @@ returns : tie.Need-returns
 returns c = let s = c .before .before .before .before .before in λ Σ C. no-words Σ (s .args .sig .now) (s .args .at) (s .pre .inside) (c .if1 .taken)
 
 returns-2 : tie.Need-returns-2
-returns-2 c = let s = c .before .before .before .before .before .before in λ Σ C. too-many Σ (s .args .sig .now) (s .args .at) (s .pre .inside) (c .if2 .taken)
+returns-2 c =
+    let s = before-else1 (c .before) in
+    λ Σ C. too-many Σ (s .args .sig .now) (s .args .at) (s .pre .inside) (c .if2 .taken)
 
 add-start : tie.Need-add-start
 add-start c = search needs
@@ -48,7 +79,9 @@ sub-if3 : tie.Need-sub-if3
 sub-if3 c = search needs
 
 returns-3 : tie.Need-returns-3
-returns-3 c = let s = c .before .before .before .before .before .before .before in λ Σ C. cut-off Σ (s .args .sig .now) (s .args .at) (s .pre .inside) (c .if3 .taken)
+returns-3 c =
+    let s = before-else1 (before-else2 (c .before)) in
+    λ Σ C. cut-off Σ (s .args .sig .now) (s .args .at) (s .pre .inside) (c .if3 .taken)
 
 add-common : tie.Need-add-common
 add-common c = search needs
@@ -70,9 +103,14 @@ common-requires c κs = search needs
 
 returns-4 : tie.Need-returns-4
 returns-4 c =
-    let s = c .before .before .before .before .before .before .before .before .before .before in
-    λ Σ C. known-type Σ (s .args .sig .now) (s .args .at) (s .pre .inside) (c .before .before .before .before .before .if1 .left) (c .before .before .before .before .if2 .left) (c .before .before .before .if3 .left)
-    (ap (λ (l : List ℕ). passed (constant-type Σ l)) (sym (lent (s .args .sig .now) (s .args .at))) ∙ c .before .common .ensures Σ (c .if4 .taken))
+    let at-common = c .before in
+    let at-else3 = before-common at-common in
+    let at-else2 = before-else3 at-else3 in
+    let at-else1 = before-else2 at-else2 in
+    let s = before-else1 at-else1 in
+    let a = s .args in
+    λ Σ C. known-type Σ (a .sig .now) (a .at) (s .pre .inside) (at-else1 .if1 .left) (at-else2 .if2 .left) (at-else3 .if3 .left)
+    (ap (λ (l : List ℕ). passed (constant-type Σ l)) (sym (lent (a .sig .now) (a .at))) ∙ at-common .common .ensures Σ (c .if4 .taken))
 
 add-check-term : tie.Need-add-check-term
 add-check-term c = search needs
@@ -109,16 +147,26 @@ same-length c = search needs
 
 returns-5 : tie.Need-returns-5
 returns-5 c =
-    let s = c .before .before .before .before .before .before .before .before .before .before .before .before .before .before .before .before .before in
-    λ Σ C. not-typed Σ (s .args .sig .now) (s .args .at) (s .pre .inside) (c .before .before .before .before .before .before .before .before .before .before .before .before .if1 .left) (c .before .before .before .before .before .before .before .before .before .before .before .if2 .left) (c .before .before .before .before .before .before .before .before .before .before .if3 .left) _ (c .before .before .before .before .check-term .result) _ _ _ (judged (c .before .before .before .before) Σ C) (c .enum-told .given .1)
+    let at-check-term = c .before .before .before .before in
+    let at-else3 = before-common (before-check-term at-check-term) in
+    let at-else2 = before-else3 at-else3 in
+    let at-else1 = before-else2 at-else2 in
+    let s = before-else1 at-else1 in
+    λ Σ C. not-typed Σ (s .args .sig .now) (s .args .at) (s .pre .inside) (at-else1 .if1 .left) (at-else2 .if2 .left) (at-else3 .if3 .left) _
+    (at-check-term .check-term .result) _ _ _ (judged at-check-term Σ C) (c .enum-told .given .1)
 
 same-length-2 : tie.Need-same-length-2
 same-length-2 c = search needs
 
 returns-6 : tie.Need-returns-6
 returns-6 c =
-    let s = c .before .before .before .before .before .before .before .before .before .before .before .before .before .before .before .before .before .before .before in
-    λ Σ C. typed-kind Σ (s .args .sig .now) (s .args .at) (s .pre .inside) (c .before .before .before .before .before .before .before .before .before .before .before .before .before .before .if1 .left) (c .before .before .before .before .before .before .before .before .before .before .before .before .before .if2 .left) (c .before .before .before .before .before .before .before .before .before .before .before .before .if3 .left) _ (c .before .before .before .before .before .before .check-term .result) _ _ _ (c .front-is .result) (judged (c .before .before .before .before .before .before) Σ C) (c .before .before .enum-told2 .given .1)
+    let at-check-term = before-ws (c .before .before .before .before .before) in
+    let at-else3 = before-common (before-check-term at-check-term) in
+    let at-else2 = before-else3 at-else3 in
+    let at-else1 = before-else2 at-else2 in
+    let s = before-else1 at-else1 in
+    λ Σ C. typed-kind Σ (s .args .sig .now) (s .args .at) (s .pre .inside) (at-else1 .if1 .left) (at-else2 .if2 .left) (at-else3 .if3 .left) _
+    (at-check-term .check-term .result) _ _ _ (c .front-is .result) (judged at-check-term Σ C) (c .before .before .enum-told2 .given .1)
     (λ A h. c .front-is .ensures A kindPA h refl tt)
 
 pub constant-spec : {M : Type 1} → statement M

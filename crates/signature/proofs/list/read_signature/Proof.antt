@@ -16,12 +16,42 @@ Inv-loop sig table₀ ws₀ at₀ count₀ table ws at count = Reading sig table
 abbrev μ-loop : tie.MeasureT-loop
 μ-loop sig table₀ ws₀ at₀ count₀ table ws at count = length sig - at
 
--- a constant was found good
-fine : (c : tie.Else2 Inv-loop μ-loop) → constant-at (c .before .before .before .before .before .before .before .before .loop .inv .0 .Σ) (drop (c .before .before .before .before .before .before .before .before .loop .at) (c .before .before .before .before .before .before .before .before .before .before .before .before .args .sig .now)) ≡ true
-fine c = let R = c .before .before .before .before .before .before .before .before .loop .inv .0 in sym (c .before .before .before .constant .ensures (R .Σ) (R .constants-are)) ∙ not-false (c .before .before .before .constant .result) (c .if2 .left)
+-- ---- places, from a later one back to an earlier one
 
-inside : (c : tie.Else2 Inv-loop μ-loop) → c .before .before .before .before .before .before .before .before .loop .at + 1 + getD (c .before .before .before .before .before .before .before .before .before .before .before .before .args .sig .now) (c .before .before .before .before .before .before .before .before .loop .at) 0 ≤ length (c .before .before .before .before .before .before .before .before .before .before .before .before .args .sig .now)
-inside c = let v = c .before .before .before .before .before .before .before .before .loop in more-inside (c .before .before .before .before .before .before .before .before .before .before .before .before .args .sig .now) (v .table) (v .at) (v .count) (v .inv .0) (c .before .before .before .before .before .before .before .loop-test .taken) (c .before .before .before .before .before .before .if1 .left) (v .inv .1 ∙ c .before .before .before .before .before .before .before .before .before .before .before .before .pre .entries) (fine c)
+abbrev before-loop : tie.At-loop Inv-loop μ-loop → tie.Start Inv-loop μ-loop
+before-loop c = c .before .before .before .before
+
+abbrev before-in-loop : tie.In-loop Inv-loop μ-loop → tie.At-loop Inv-loop μ-loop
+before-in-loop c = c .before
+
+abbrev before-else1 : tie.Else1 Inv-loop μ-loop → tie.In-loop Inv-loop μ-loop
+before-else1 c = c .before
+
+abbrev before-constant : tie.After-constant Inv-loop μ-loop → tie.Else1 Inv-loop μ-loop
+before-constant c = c .before .before .before
+
+-- a constant was found good
+fine : (c : tie.Else2 Inv-loop μ-loop) →
+    let at-loop = before-in-loop (before-else1 (before-constant (c .before .before .before))) in
+    let at-start = before-loop at-loop in
+    constant-at (at-loop .loop .inv .0 .Σ) (drop (at-loop .loop .at) (at-start .args .sig .now)) ≡ true
+fine c =
+    let at-constant = c .before .before .before in
+    let at-loop = before-in-loop (before-else1 (before-constant at-constant)) in
+    let R = at-loop .loop .inv .0 in sym (at-constant .constant .ensures (R .Σ) (R .constants-are)) ∙ not-false (at-constant .constant .result) (c .if2 .left)
+
+inside : (c : tie.Else2 Inv-loop μ-loop) →
+    let at-loop = before-in-loop (before-else1 (before-constant (c .before .before .before))) in
+    let at-start = before-loop at-loop in
+    at-loop .loop .at + 1 + getD (at-start .args .sig .now) (at-loop .loop .at) 0 ≤ length (at-start .args .sig .now)
+inside c =
+    let at-else1 = before-constant (c .before .before .before) in
+    let in-loop = before-else1 at-else1 in
+    let at-loop = before-in-loop in-loop in
+    let at-start = before-loop at-loop in
+    let v = at-loop .loop in
+    more-inside (at-start .args .sig .now) (v .table) (v .at) (v .count) (v .inv .0) (in-loop .loop-test .taken) (at-else1 .if1 .left)
+    (v .inv .1 ∙ at-start .pre .entries) (fine c)
 
 loop-holds : tie.Need-loop-holds Inv-loop μ-loop
 loop-holds c = let s = c .before .before .before in (reading-start (s .args .sig .now) (s .args .table .now), refl, refl)
@@ -33,7 +63,12 @@ same-length-2 : tie.Need-same-length-2 Inv-loop μ-loop
 same-length-2 c = search needs
 
 returns : tie.Need-returns Inv-loop μ-loop
-returns c = let s = c .before .before .before .before .before .before in let v = c .before .before .loop in reading-full (s .args .sig .now) (v .table) (v .at) (v .count) (v .inv .0) (v .table) (c .before .loop-test .taken) (omega (arith, c .if1 .taken))
+returns c =
+    let in-loop = c .before in
+    let at-loop = before-in-loop in-loop in
+    let s = before-loop at-loop in
+    let v = at-loop .loop in
+    reading-full (s .args .sig .now) (v .table) (v .at) (v .count) (v .inv .0) (v .table) (in-loop .loop-test .taken) (omega (arith, c .if1 .taken))
 
 slice-reshare-prefix-constant : tie.Need-slice-reshare-prefix-constant Inv-loop μ-loop
 slice-reshare-prefix-constant c = search needs
@@ -43,9 +78,16 @@ slice-aggregate-constant c = search needs
 
 constant-requires : tie.Need-constant-requires Inv-loop μ-loop
 constant-requires c κs =
-    let s = c .before .before .before .before .before .before .before .before in
-    let v = c .before .before .before .before .loop in
-    record { Σ = v .inv .0 .Σ; constants = v .inv .0 .constants-are; workspace = omega (arith, s .pre .workspace, v .inv .2); inside = c .before .before .before .loop-test .taken }
+    let in-loop = before-else1 (c .before .before) in
+    let at-loop = before-in-loop in-loop in
+    let s = before-loop at-loop in
+    let v = at-loop .loop in
+    record {
+      Σ = v .inv .0 .Σ;
+      constants = v .inv .0 .constants-are;
+      workspace = omega (arith, s .pre .workspace, v .inv .2);
+      inside = in-loop .loop-test .taken;
+    }
 
 same-length-3 : tie.Need-same-length-3 Inv-loop μ-loop
 same-length-3 c = search needs
@@ -55,10 +97,14 @@ same-length-4 c = search needs
 
 returns-2 : tie.Need-returns-2 Inv-loop μ-loop
 returns-2 c =
-    let s = c .before .before .before .before .before .before .before .before .before .before .before .before in
-    let v = c .before .before .before .before .before .before .before .before .loop in
+    let at-constant = c .before .before .before in
+    let in-loop = before-else1 (before-constant at-constant) in
+    let at-loop = before-in-loop in-loop in
+    let s = before-loop at-loop in
+    let v = at-loop .loop in
     let R = v .inv .0 in
-    reading-bad (s .args .sig .now) (v .table) (v .at) (v .count) R (v .table) (c .before .before .before .before .before .before .before .loop-test .taken) (sym (c .before .before .before .constant .ensures (R .Σ) (R .constants-are)) ∙ not-true (c .before .before .before .constant .result) (c .if2 .taken))
+    reading-bad (s .args .sig .now) (v .table) (v .at) (v .count) R (v .table) (in-loop .loop-test .taken)
+    (sym (at-constant .constant .ensures (R .Σ) (R .constants-are)) ∙ not-true (at-constant .constant .result) (c .if2 .taken))
 
 add-table : tie.Need-add-table Inv-loop μ-loop
 add-table c = search needs
@@ -82,10 +128,14 @@ shared-slice-read-at : tie.Need-shared-slice-read-at Inv-loop μ-loop
 shared-slice-read-at c = search needs
 
 cast-at : tie.Need-cast-at Inv-loop μ-loop
-cast-at c = omega (arith, inside (c .before), c .before .before .before .before .before .before .before .before .before .before .before .before .before .good)
+cast-at c =
+    let at-start = before-loop (before-in-loop (before-else1 (before-constant (c .before .before .before .before)))) in
+    omega (arith, inside (c .before), at-start .good)
 
 add-at-2 : tie.Need-add-at-2 Inv-loop μ-loop
-add-at-2 c = omega (arith, inside (c .before), c .before .before .before .before .before .before .before .before .before .before .before .before .before .good)
+add-at-2 c =
+    let at-start = before-loop (before-in-loop (before-else1 (before-constant (c .before .before .before .before)))) in
+    omega (arith, inside (c .before), at-start .good)
 
 add-count : tie.Need-add-count Inv-loop μ-loop
 add-count c = search needs
@@ -95,11 +145,16 @@ loop-less c = search needs
 
 loop-again : tie.Need-loop-again Inv-loop μ-loop
 loop-again c =
-    let s = c .before .before .before .before .before .before .before .before .before .before .before .before .before in
-    let v = c .before .before .before .before .before .before .before .before .before .loop in (
-      reading-more (s .args .sig .now) (v .table) (v .at) (v .count) (v .inv .0) (c .before .before .before .before .before .before .before .before .loop-test .taken) (c .before .before .before .before .before .before .before .if1 .left) (v .inv .1 ∙ s .pre .entries) (fine (c .before)),
+    let at-constant = c .before .before .before .before in
+    let at-else1 = before-constant at-constant in
+    let in-loop = before-else1 at-else1 in
+    let at-loop = before-in-loop in-loop in
+    let s = before-loop at-loop in
+    let v = at-loop .loop in (
+      reading-more (s .args .sig .now) (v .table) (v .at) (v .count) (v .inv .0) (in-loop .loop-test .taken) (at-else1 .if1 .left)
+          (v .inv .1 ∙ s .pre .entries) (fine (c .before)),
       length-set (v .table) (v .count) (v .at + 1) ∙ v .inv .1,
-      c .before .before .before .before .constant .kept .1 .1 .1 .0 ∙ v .inv .2,
+      at-constant .constant .kept .1 .1 .1 .0 ∙ v .inv .2,
     )
 
 same-length-5 : tie.Need-same-length-5 Inv-loop μ-loop
@@ -109,7 +164,10 @@ same-length-6 : tie.Need-same-length-6 Inv-loop μ-loop
 same-length-6 c = search needs
 
 returns-3 : tie.Need-returns-3 Inv-loop μ-loop
-returns-3 c = let s = c .before .before .before .before .before in let v = c .before .loop in reading-done (s .args .sig .now) (v .table) (v .at) (v .count) (v .inv .0) (c .loop-test .left)
+returns-3 c =
+    let s = c .before .before .before .before .before in
+    let v = c .before .loop in
+    reading-done (s .args .sig .now) (v .table) (v .at) (v .count) (v .inv .0) (c .loop-test .left)
 
 pub read-signature-spec : {M : Type 1} → statement M
 read-signature-spec =

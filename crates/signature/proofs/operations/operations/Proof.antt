@@ -20,12 +20,30 @@ Inv-loop sig table n count pi string prop permit receipt i₀ i = (i ≤ count) 
 abbrev μ-loop : tie.MeasureT-loop
 μ-loop sig table n count pi string prop permit receipt i₀ i = count - i
 
+-- ---- places, from a later one back to an earlier one
+
+abbrev before-loop : tie.At-loop Inv-loop μ-loop → tie.Start Inv-loop μ-loop
+before-loop c = c .before .before .before .before .before
+
+abbrev before-in-loop : tie.In-loop Inv-loop μ-loop → tie.At-loop Inv-loop μ-loop
+before-in-loop c = c .before
+
+abbrev before-permit : tie.After-permit Inv-loop μ-loop → tie.In-loop Inv-loop μ-loop
+before-permit c = c .before
+
 -- the tests of an operation's constants
-permit-is : (c : tie.After-constant-is Inv-loop μ-loop) (Σ : List Term) → Declared (c .before .before .before .before .before .before .before .before .args .sig .now) (c .before .before .before .before .before .before .before .before .args .table .now) Σ → c .constant-is .result ≡ is-type (Pi S P) (getElem? Σ (permit (c .before .before .before .loop .i)))
+permit-is : (c : tie.After-constant-is Inv-loop μ-loop) (Σ : List Term) →
+    let at-loop = before-in-loop (c .before .before) in
+    let at-start = before-loop at-loop in
+    Declared (at-start .args .sig .now) (at-start .args .table .now) Σ → c .constant-is .result ≡ is-type (Pi S P) (getElem? Σ (permit (at-loop .loop .i)))
 unfolding encode InRange
 permit-is c Σ d = c .constant-is .ensures Σ (Pi S P) d refl (tt, tt)
 
-receipt-is : (c : tie.After-constant-is2 Inv-loop μ-loop) (Σ : List Term) → Declared (c .before .before .before .before .before .before .before .before .before .before .before .args .sig .now) (c .before .before .before .before .before .before .before .before .before .before .before .args .table .now) Σ → c .constant-is2 .result ≡ is-type (Pi S (Pi S P)) (getElem? Σ (receipt-of (c .before .before .before .before .before .before .loop .i)))
+receipt-is : (c : tie.After-constant-is2 Inv-loop μ-loop) (Σ : List Term) →
+    let at-loop = before-in-loop (c .before .before .before .before .before) in
+    let at-start = before-loop at-loop in
+    Declared (at-start .args .sig .now) (at-start .args .table .now) Σ → c .constant-is2 .result ≡ is-type (Pi S (Pi S P))
+    (getElem? Σ (receipt-of (at-loop .loop .i)))
 unfolding encode InRange
 receipt-is c Σ d = c .constant-is2 .ensures Σ (Pi S (Pi S P)) d refl (tt, (tt, tt))
 
@@ -57,7 +75,12 @@ constant-is-requires : tie.Need-constant-is-requires Inv-loop μ-loop
 constant-is-requires c κs = search needs
 
 returns-3 : tie.Need-returns-3 Inv-loop μ-loop
-returns-3 c = λ Σ d. no-permit Σ (c .before .before .before .before .before .before .before .before .before .args .n) (c .before .before .before .before .loop .i) (c .before .before .before .loop-test .taken) (sym (permit-is (c .before) Σ d) ∙ not-true (c .before .constant-is .result) (c .if3 .taken))
+returns-3 c =
+    let in-loop = c .before .before .before in
+    let at-loop = before-in-loop in-loop in
+    let at-start = before-loop at-loop in
+    λ Σ d. no-permit Σ (at-start .args .n) (at-loop .loop .i) (in-loop .loop-test .taken)
+    (sym (permit-is (c .before) Σ d) ∙ not-true (c .before .constant-is .result) (c .if3 .taken))
 
 mul-constant-is-2 : tie.Need-mul-constant-is-2 Inv-loop μ-loop
 mul-constant-is-2 c = search needs
@@ -72,7 +95,12 @@ constant-is-requires-2 : tie.Need-constant-is-requires-2 Inv-loop μ-loop
 constant-is-requires-2 c κs = search needs
 
 returns-4 : tie.Need-returns-4 Inv-loop μ-loop
-returns-4 c = λ Σ d. no-receipt Σ (c .before .before .before .before .before .before .before .before .before .before .before .before .args .n) (c .before .before .before .before .before .before .before .loop .i) (c .before .before .before .before .before .before .loop-test .taken) (sym (receipt-is (c .before) Σ d) ∙ not-true (c .before .constant-is2 .result) (c .if4 .taken))
+returns-4 c =
+    let in-loop = before-permit (c .before .before .before .before .before) in
+    let at-loop = before-in-loop in-loop in
+    let at-start = before-loop at-loop in
+    λ Σ d. no-receipt Σ (at-start .args .n) (at-loop .loop .i) (in-loop .loop-test .taken)
+    (sym (receipt-is (c .before) Σ d) ∙ not-true (c .before .constant-is2 .result) (c .if4 .taken))
 
 add-i : tie.Need-add-i Inv-loop μ-loop
 add-i c = search needs
@@ -81,13 +109,20 @@ loop-less : tie.Need-loop-less Inv-loop μ-loop
 loop-less c = search needs
 
 loop-again : tie.Need-loop-again Inv-loop μ-loop
-loop-again c = (
-  search needs,
-  λ Σ d. one-operation Σ (c .before .before .before .before .before .before .before .loop .i) (c .before .before .before .before .before .before .before .loop .inv .1 Σ d) (sym (permit-is (c .before .before .before .before) Σ d) ∙ not-false (c .before .before .before .before .constant-is .result) (c .before .before .before .if3 .left)) (sym (receipt-is (c .before) Σ d) ∙ not-false (c .before .constant-is2 .result) (c .if4 .left)),
-)
+loop-again c =
+    let at-loop = before-in-loop (before-permit (c .before .before .before .before .before)) in (
+      search needs,
+      λ Σ d. one-operation Σ (at-loop .loop .i) (at-loop .loop .inv .1 Σ d)
+          (sym (permit-is (c .before .before .before .before) Σ d) ∙ not-false (c .before .before .before .before .constant-is .result)
+          (c .before .before .before .if3 .left)) (sym (receipt-is (c .before) Σ d) ∙ not-false (c .before .constant-is2 .result) (c .if4 .left)),
+    )
 
 returns-5 : tie.Need-returns-5 Inv-loop μ-loop
-returns-5 c = λ Σ d. all-operations Σ (c .before .before .before .before .before .before .args .n) (c .before .before .before .if1 .left) (c .before .before .if2 .left) (ap (operations Σ) (omega arith) ∙ c .before .loop .inv .1 Σ d)
+returns-5 c =
+    let at-loop = c .before in
+    let at-start = before-loop at-loop in
+    λ Σ d. all-operations Σ (at-start .args .n) (c .before .before .before .if1 .left) (c .before .before .if2 .left)
+    (ap (operations Σ) (omega arith) ∙ at-loop .loop .inv .1 Σ d)
 
 pub operations-spec : {M : Type 1} → statement M
 operations-spec =

@@ -46,13 +46,32 @@ below t = and 4 kinds.ps (falls 4 kinds.ps _<_ μ-derive t) derive.Pre
 
 -- what the code that it calls asks and tells
 abbrev calls : ℕ → lts.Claims
-calls t = (kind-reads.Asked, kind-reads.Learnt, atom-reads.Asked, atom-reads.Learnt, payload-of-reads.Asked, payload-of-reads.Learnt, variable-reads.Asked, variable-reads.Learnt, below t, derive.Post, sign-reads.Asked, sign-reads.Learnt, enter-reads.Asked, enter-reads.Learnt, formed-reads.Asked, formed-reads.Learnt)
+calls t = (
+  kind-reads.Asked,
+  kind-reads.Learnt,
+  atom-reads.Asked,
+  atom-reads.Learnt,
+  payload-of-reads.Asked,
+  payload-of-reads.Learnt,
+  variable-reads.Asked,
+  variable-reads.Learnt,
+  below t,
+  derive.Post,
+  sign-reads.Asked,
+  sign-reads.Learnt,
+  enter-reads.Asked,
+  enter-reads.Learnt,
+  formed-reads.Asked,
+  formed-reads.Learnt,
+)
 
 -- ---- what is known at some places
 
 -- the words lent, for a term
 abbrev Here : (t : ℕ) (s : lts.Start (calls t) (given t) derive.Post) → List Term → List Term → Term → Type 0
-Here t s Σ Γ u = Ready (s .args .sig .now) (s .args .table .now) (s .args .proof .now) (s .args .ws .now) (s .args .floor) (s .args .used) (s .args .at) (s .args .left) Σ Γ u
+Here t s Σ Γ u =
+    Ready (s .args .sig .now) (s .args .table .now) (s .args .proof .now) (s .args .ws .now) (s .args .floor) (s .args .used) (s .args .at)
+    (s .args .left) Σ Γ u
 
 -- what it ensures of a term
 abbrev Gives : (t : ℕ) (s : lts.Start (calls t) (given t) derive.Post) → List Term → List Term → List ℕ → Derivation → Term → Type 0
@@ -64,68 +83,182 @@ place-within t s = let a = at-end (s .pre .1 .ready .here) in let b = size-pos (
 deep : (t : ℕ) (s : lts.Start (calls t) (given t) derive.Post) → 0 < s .args .left
 deep t s = let a = s .pre .1 .ready .deep in let b = depth-pos (s .pre .1 .term) in omega arith
 
-kind-known : (t : ℕ) (c : lts.After-kind (calls t) (given t) derive.Post) (u : Term) → At (c .before .before .before .before .before .before .args .proof .now) (c .before .before .before .before .before .before .args .at) u → c .kind .result ≡ headKind u
+-- ---- places, from a later one back to an earlier one
+
+abbrev before-shared-slice-known : (t : ℕ) → lts.After-shared-slice-known (calls t) (given t) derive.Post → lts.Start (calls t) (given t) derive.Post
+before-shared-slice-known t c = c .before
+
+abbrev before-kind : (t : ℕ) → lts.After-kind (calls t) (given t) derive.Post → lts.After-shared-slice-known (calls t) (given t) derive.Post
+before-kind t c = c .before .before .before .before .before
+
+abbrev before-then3 : (t : ℕ) → lts.Then3 (calls t) (given t) derive.Post → lts.After-kind (calls t) (given t) derive.Post
+before-then3 t c = c .before .before .before
+
+abbrev before-else3 : (t : ℕ) → lts.Else3 (calls t) (given t) derive.Post → lts.After-kind (calls t) (given t) derive.Post
+before-else3 t c = c .before .before .before
+
+abbrev before-payload-of : (t : ℕ) → lts.After-payload-of (calls t) (given t) derive.Post → lts.After-kind (calls t) (given t) derive.Post
+before-payload-of t c = c .before .before .before .before
+
+abbrev before-derive : (t : ℕ) → lts.After-derive (calls t) (given t) derive.Post → lts.Then3 (calls t) (given t) derive.Post
+before-derive t c = c .before .before
+
+abbrev before-joined4 : (t : ℕ) → lts.Joined4 (calls t) (given t) derive.Post → lts.Else3 (calls t) (given t) derive.Post
+before-joined4 t c = c .before .before .before
+
+abbrev before-first : (t : ℕ) → lts.After-first (calls t) (given t) derive.Post → lts.Joined4 (calls t) (given t) derive.Post
+before-first t c = c .before .before
+
+abbrev before-inner : (t : ℕ) → lts.After-inner (calls t) (given t) derive.Post → lts.After-derive (calls t) (given t) derive.Post
+before-inner t c = c .before .before .before .before
+
+abbrev before-enter : (t : ℕ) → lts.After-enter (calls t) (given t) derive.Post → lts.After-first (calls t) (given t) derive.Post
+before-enter t c = c .before .before .before
+
+abbrev before-entered : (t : ℕ) → lts.After-entered (calls t) (given t) derive.Post → lts.After-enter (calls t) (given t) derive.Post
+before-entered t c = c .before .before .before .before
+
+abbrev before-derive3 : (t : ℕ) → lts.After-derive3 (calls t) (given t) derive.Post → lts.After-entered (calls t) (given t) derive.Post
+before-derive3 t c = c .before .before .before
+
+abbrev before-second : (t : ℕ) → lts.After-second (calls t) (given t) derive.Post → lts.After-derive3 (calls t) (given t) derive.Post
+before-second t c = c .before .before .before .before
+
+kind-known : (t : ℕ) (c : lts.After-kind (calls t) (given t) derive.Post) (u : Term) →
+    let at-start = before-shared-slice-known t (before-kind t c) in
+    At (at-start .args .proof .now) (at-start .args .at) u → c .kind .result ≡ headKind u
 kind-known t c u h = c .kind .ensures ∙ at-kind h
 
-sign-at : (t : ℕ) (c : lts.Then3 (calls t) (given t) derive.Post) → SignAt (c .before .before .before .before .before .before .before .before .before .args .sig .now) (c .before .before .before .before .before .before .before .before .before .args .table .now) (c .before .before .before .before .before .before .before .before .before .args .proof .now) (c .before .before .before .before .before .before .before .before .before .args .ws .now) (c .before .before .before .before .before .before .before .before .before .args .floor) (c .before .before .before .before .before .before .before .before .before .args .used) (c .before .before .before .before .before .before .before .before .before .args .at) (c .before .before .before .before .before .before .before .before .before .args .left) (c .before .before .before .before .before .before .before .before .before .pre .1 .Σ) (c .before .before .before .before .before .before .before .before .before .pre .1 .Γ)
+sign-at : (t : ℕ) (c : lts.Then3 (calls t) (given t) derive.Post) →
+    let at-start = before-shared-slice-known t (before-kind t (before-then3 t c)) in
+    let a = at-start .args in
+    SignAt (a .sig .now) (a .table .now) (a .proof .now) (a .ws .now) (a .floor) (a .used) (a .at) (a .left) (at-start .pre .1 .Σ) (at-start .pre .1 .Γ)
 sign-at t c =
-    let p = c .before .before .before .before .before .before .before .before .before .pre .1 in
-    sign-case (c .before .before .before .kind .result) (p .term) (kind-known t (c .before .before .before) (p .term) (p .ready .here)) (c .if3 .taken) (p .ready)
+    let at-kind = before-then3 t c in
+    let at-start = before-shared-slice-known t (before-kind t at-kind) in
+    let p = at-start .pre .1 in
+    sign-case (at-kind .kind .result) (p .term) (kind-known t at-kind (p .term) (p .ready .here)) (c .if3 .taken) (p .ready)
 
 -- a node, of any term that stands there
-as-node : (t : ℕ) (c : lts.Else3 (calls t) (given t) derive.Post) (Σ Γ : List Term) (u : Term) (F : Term → Type 0) → Here t (c .before .before .before .before .before .before .before .before .before) Σ Γ u → ((o : Op) (a b : Term) → Here t (c .before .before .before .before .before .before .before .before .before) Σ Γ (node o a b) → F (node o a b)) → F u
-as-node t c Σ Γ u F R f = node-case (λ u. Here t (c .before .before .before .before .before .before .before .before .before) Σ Γ u → F u) u (c .before .before .before .kind .result) (kind-known t (c .before .before .before) u (R .here)) (c .before .before .if1 .left) (c .before .if2 .left) (c .if3 .left) f R
+as-node : (t : ℕ) (c : lts.Else3 (calls t) (given t) derive.Post) (Σ Γ : List Term) (u : Term) (F : Term →
+    let at-start = before-shared-slice-known t (before-kind t (before-else3 t c)) in
+    Type 0) → Here t at-start Σ Γ u → ((o : Op) (a b : Term) → Here t at-start Σ Γ (node o a b) → F (node o a b)) → F u
+as-node t c Σ Γ u F R f =
+    let at-kind = before-else3 t c in
+    let at-start = before-shared-slice-known t (before-kind t at-kind) in
+    node-case (λ u. Here t at-start Σ Γ u → F u) u (at-kind .kind .result) (kind-known t at-kind u (R .here)) (c .before .before .if1 .left)
+    (c .before .if2 .left) (c .if3 .left) f R
 
 abbrev NodeHere : (t : ℕ) (s : lts.Start (calls t) (given t) derive.Post) → Type 0
-NodeHere t s = NodeAt (s .args .sig .now) (s .args .table .now) (s .args .proof .now) (s .args .ws .now) (s .args .floor) (s .args .used) (s .args .at) (s .args .left) (s .pre .1 .Σ) (s .pre .1 .Γ)
+NodeHere t s =
+    NodeAt (s .args .sig .now) (s .args .table .now) (s .args .proof .now) (s .args .ws .now) (s .args .floor) (s .args .used) (s .args .at)
+    (s .args .left) (s .pre .1 .Σ) (s .pre .1 .Γ)
 
 -- of the term that `requires` brought
-node-at : (t : ℕ) (c : lts.Else3 (calls t) (given t) derive.Post) → NodeHere t (c .before .before .before .before .before .before .before .before .before)
-node-at t c = let p = c .before .before .before .before .before .before .before .before .before .pre .1 in as-node t c (p .Σ) (p .Γ) (p .term) (λ u. NodeHere t (c .before .before .before .before .before .before .before .before .before)) (p .ready) (λ o a b R. record { o = o; a = a; b = b; ready-node = R })
+node-at : (t : ℕ) (c : lts.Else3 (calls t) (given t) derive.Post) →
+    let at-start = before-shared-slice-known t (before-kind t (before-else3 t c)) in
+    NodeHere t at-start
+node-at t c =
+    let at-start = before-shared-slice-known t (before-kind t (before-else3 t c)) in
+    let p = at-start .pre .1 in
+    as-node t c (p .Σ) (p .Γ) (p .term) (λ u. NodeHere t at-start) (p .ready) (λ o a b R. record { o = o; a = a; b = b; ready-node = R })
 
 -- the first child starts within the proof
-child-within : (t : ℕ) (c : lts.Else3 (calls t) (given t) derive.Post) → c .before .before .before .before .before .before .before .before .before .args .at + 1 < length (c .before .before .before .before .before .before .before .before .before .args .proof .now)
+child-within : (t : ℕ) (c : lts.Else3 (calls t) (given t) derive.Post) →
+    let at-start = before-shared-slice-known t (before-kind t (before-else3 t c)) in
+    at-start .args .at + 1 < length (at-start .args .proof .now)
 child-within t c = let M = node-at t c in let a = at-end (at-left (M .ready-node .here)) in let b = size-pos (M .a) in omega arith
 
-child-known : (t : ℕ) (c : lts.After-kind2 (calls t) (given t) derive.Post) (u : Term) → At (c .before .before .before .before .before .before .before .before .before .before .before .args .proof .now) (c .before .before .before .before .before .before .before .before .before .before .before .args .at + 1) u → c .kind2 .result ≡ headKind u
+child-known : (t : ℕ) (c : lts.After-kind2 (calls t) (given t) derive.Post) (u : Term) →
+    let at-start = before-shared-slice-known t (before-kind t (before-else3 t (c .before .before))) in
+    At (at-start .args .proof .now) (at-start .args .at + 1) u → c .kind2 .result ≡ headKind u
 child-known t c u h = c .kind2 .ensures ∙ at-kind h
 
 -- the first child is derived, by either way
-first-derives : (t : ℕ) (c : lts.Joined4 (calls t) (given t) derive.Post) → Derives (c .before .before .before .before .before .before .before .before .before .before .before .before .args .sig .now) (c .before .before .before .before .before .before .before .before .before .before .before .before .args .table .now) (c .before .before .before .before .before .before .before .before .before .before .before .before .args .proof .now) (c .before .before .before .before .before .before .before .before .before .before .before .before .args .ws .now) (c .before .before .before .before .before .before .before .before .before .before .before .before .args .floor) (c .before .before .before .before .before .before .before .before .before .before .before .before .args .used) (c .before .before .before .before .before .before .before .before .before .before .before .before .args .at + 1) (c .before .before .before .before .before .before .before .before .before .before .before .before .args .left - 1) (c .if4 .ws) (c .if4 .first)
-first-derives t c = ⊎-elim
-    (λ w. carried (w .5) (w .6) (λ Σ Γ u R. atom-derived (c .before .kind2 .result) _ (w .2 .result) (w .2 .kept .1 .1 .0) (omega (arith, c .before .before .before .before .before .before .before .before .before .before .before .before .pre .1 .room)) u (w .0 .taken) (child-known t (c .before) u (R .here)) R (w .2 .ensures)))
+first-derives : (t : ℕ) (c : lts.Joined4 (calls t) (given t) derive.Post) →
+    let at-start = before-shared-slice-known t (before-kind t (before-else3 t (before-joined4 t c))) in
+    let a = at-start .args in
+    Derives (a .sig .now) (a .table .now) (a .proof .now) (a .ws .now) (a .floor) (a .used) (a .at + 1) (a .left - 1) (c .if4 .ws) (c .if4 .first)
+first-derives t c =
+    let at-start = before-shared-slice-known t (before-kind t (before-else3 t (before-joined4 t c))) in
+    ⊎-elim
+    (λ w. carried (w .5) (w .6)
+    (λ Σ Γ u R. atom-derived (c .before .kind2 .result) _ (w .2 .result) (w .2 .kept .1 .1 .0) (omega (arith, at-start .pre .1 .room)) u
+    (w .0 .taken) (child-known t (c .before) u (R .here)) R (w .2 .ensures)))
     (λ w. carried (w .5) (w .6) (w .2 .ensures))
     (c .if4 .came)
 
-first-length : (t : ℕ) (c : lts.Joined4 (calls t) (given t) derive.Post) → length (c .if4 .ws) ≡ length (c .before .before .before .before .before .before .before .before .before .before .before .before .args .ws .now)
+first-length : (t : ℕ) (c : lts.Joined4 (calls t) (given t) derive.Post) →
+    let at-start = before-shared-slice-known t (before-kind t (before-else3 t (before-joined4 t c))) in
+    length (c .if4 .ws) ≡ length (at-start .args .ws .now)
 first-length t c = ⊎-elim (λ w. ap length (w .5) ∙ w .2 .kept .1 .1 .0) (λ w. ap length (w .5) ∙ w .2 .kept .1 .1 .1 .0) (c .if4 .came)
 
 -- the workspace keeps its length
-mid-length : (t : ℕ) (c : lts.After-entered (calls t) (given t) derive.Post) → length (c .before .before .before .before .enter .last .1 .0) ≡ length (c .before .before .before .before .before .before .before .before .before .before .before .before .before .before .before .before .before .before .before .before .before .args .ws .now)
-mid-length t c = c .before .before .before .before .enter .kept .1 .0 ∙ first-length t (c .before .before .before .before .before .before .before .before .before)
+mid-length : (t : ℕ) (c : lts.After-entered (calls t) (given t) derive.Post) →
+    let at-enter = before-entered t c in
+    let at-start = before-shared-slice-known t (before-kind t (before-else3 t (before-joined4 t (before-first t (before-enter t at-enter))))) in
+    length (at-enter .enter .last .1 .0) ≡ length (at-start .args .ws .now)
+mid-length t c =
+    let at-enter = before-entered t c in
+    let at-joined4 = at-enter .before .before .before .before .before in
+    at-enter .enter .kept .1 .0 ∙ first-length t at-joined4
 
 module _ (t : ℕ) {Σ Γ : List Term} {o : Op} {a b : Term} where
   -- the first child has its type
-  first-typed : (c : lts.After-first (calls t) (given t) derive.Post) → Here t (c .before .before .before .before .before .before .before .before .before .before .before .before .before .before) Σ Γ (node o a b) → Between (c .before .before .before .before .before .before .before .before .before .before .before .before .before .before .args .proof .now) (c .before .before .before .before .before .before .before .before .before .before .before .before .before .before .args .ws .now) (c .before .before .if4 .ws) (c .before .before .before .before .before .before .before .before .before .before .before .before .before .before .args .used) (c .before .before .before .before .before .before .before .before .before .before .before .before .before .before .args .at) (c .first .given .0 .1 .0) (c .first .given .0 .0) Σ Γ o a
+  first-typed : (c : lts.After-first (calls t) (given t) derive.Post) →
+      let at-joined4 = before-first t c in
+      let at-start = before-shared-slice-known t (before-kind t (before-else3 t (before-joined4 t at-joined4))) in
+      Here t at-start Σ Γ (node o a b) → Between (at-start .args .proof .now) (at-start .args .ws .now) (at-joined4 .if4 .ws) (at-start .args .used)
+      (at-start .args .at) (c .first .given .0 .1 .0) (c .first .given .0 .0) Σ Γ o a
   first-typed c R = between R _ (c .before .before .if4 .first) _ _ (first-derives t (c .before .before)) (c .first .given .1)
 
   -- the test on it passed
-  test-passed : (c : lts.After-entered (calls t) (given t) derive.Post) (R : Here t (c .before .before .before .before .before .before .before .before .before .before .before .before .before .before .before .before .before .before .before .before .before) Σ Γ (node o a b)) → Inside (c .before .before .before .before .before .before .before .before .before .if4 .ws) (c .before .before .before .before .enter .last .1 .0) (c .before .before .before .before .before .before .before .before .before .before .before .before .before .before .before .before .before .before .before .before .before .args .used) (c .before .before .before .before .before .before .before .before .before .before .before .before .before .before .before .before .before .before .before .before .before .args .at) (c .before .before .before .before .before .before .before .first .given .0 .0) (c .entered .given .0 .0) (c .entered .given .0 .1 .0) o a (first-typed (c .before .before .before .before .before .before .before) R .type)
+  test-passed : (c : lts.After-entered (calls t) (given t) derive.Post) (R : Here t at-start Σ Γ (node o a b)) →
+      let at-enter = before-entered t c in
+      let at-first = before-enter t at-enter in
+      let at-joined4 = before-first t at-first in
+      let at-start = before-shared-slice-known t (before-kind t (before-else3 t (before-joined4 t at-joined4))) in
+      Inside (at-joined4 .if4 .ws) (at-enter .enter .last .1 .0) (at-start .args .used) (at-start .args .at) (at-first .first .given .0 .0)
+      (c .entered .given .0 .0) (c .entered .given .0 .1 .0) o a (first-typed at-first R .type)
   test-passed c R =
-      let B = first-typed (c .before .before .before .before .before .before .before) R in
-      inside o _ a (B .type) _ _ _ _ (c .before .before .before .before .enter .result) _ _ (c .before .before .before .before .enter .ensures o a (B .type) (B .enters)) (c .entered .given .1)
+      let at-enter = before-entered t c in
+      let at-first = before-enter t at-enter in
+      let B = first-typed at-first R in
+      inside o _ a (B .type) _ _ _ _ (at-enter .enter .result) _ _ (at-enter .enter .ensures o a (B .type) (B .enters)) (c .entered .given .1)
 
-  level-kept : (c : lts.After-entered (calls t) (given t) derive.Post) → Here t (c .before .before .before .before .before .before .before .before .before .before .before .before .before .before .before .before .before .before .before .before .before) Σ Γ (node o a b) → c .entered .given .0 .0 + c .entered .given .0 .1 .0 ≤ c .before .before .before .before .before .before .before .before .before .before .before .before .before .before .before .before .before .before .before .before .before .args .used + level-words
-  level-kept c R = let p = c .before .before .before .before .before .before .before .before .before .before .before .before .before .before .before .before .before .before .before .before .before .pre .1 in level R _ _ _ _ _ _ (first-typed (c .before .before .before .before .before .before .before) R) (test-passed c R) (p .below) (mid-length t c) (p .room)
+  level-kept : (c : lts.After-entered (calls t) (given t) derive.Post) →
+      let at-start = before-shared-slice-known t (before-kind t (before-else3 t (before-joined4 t (before-first t (before-enter t (before-entered t c)))))) in
+      Here t at-start Σ Γ (node o a b) → c .entered .given .0 .0 + c .entered .given .0 .1 .0 ≤ at-start .args .used + level-words
+  level-kept c R =
+      let at-first = before-enter t (before-entered t c) in
+      let at-start = before-shared-slice-known t (before-kind t (before-else3 t (before-joined4 t (before-first t at-first)))) in
+      let p = at-start .pre .1 in level R _ _ _ _ _ _ (first-typed at-first R) (test-passed c R) (p .below) (mid-length t c) (p .room)
 
-  second-ready-here : (c : lts.After-entered (calls t) (given t) derive.Post) (R : Here t (c .before .before .before .before .before .before .before .before .before .before .before .before .before .before .before .before .before .before .before .before .before) Σ Γ (node o a b)) → Ready (c .before .before .before .before .before .before .before .before .before .before .before .before .before .before .before .before .before .before .before .before .before .args .sig .now) (c .before .before .before .before .before .before .before .before .before .before .before .before .before .before .before .before .before .before .before .before .before .args .table .now) (c .before .before .before .before .before .before .before .before .before .before .before .before .before .before .before .before .before .before .before .before .before .args .proof .now) (rest-of (c .entered .given .0 .0) (c .before .before .before .before .enter .last .1 .0)) (c .before .before .before .before .before .before .before .before .before .before .before .before .before .before .before .before .before .before .before .before .before .args .floor) (c .entered .given .0 .1 .0) (c .before .before .before .before .before .before .before .first .given .0 .1 .0) (c .before .before .before .before .before .before .before .before .before .before .before .before .before .before .before .before .before .before .before .before .before .args .left - 1) Σ (within o a (first-typed (c .before .before .before .before .before .before .before) R .type) Γ) b
-  second-ready-here c R = let p = c .before .before .before .before .before .before .before .before .before .before .before .before .before .before .before .before .before .before .before .before .before .pre .1 in second-ready R _ _ _ _ _ _ (first-typed (c .before .before .before .before .before .before .before) R) (test-passed c R) (p .below) (mid-length t c) (p .room)
+  second-ready-here : (c : lts.After-entered (calls t) (given t) derive.Post) (R : Here t at-start Σ Γ (node o a b)) →
+      let at-enter = before-entered t c in
+      let at-first = before-enter t at-enter in
+      let at-start = before-shared-slice-known t (before-kind t (before-else3 t (before-joined4 t (before-first t at-first)))) in
+      Ready (at-start .args .sig .now) (at-start .args .table .now) (at-start .args .proof .now)
+      (rest-of (c .entered .given .0 .0) (at-enter .enter .last .1 .0)) (at-start .args .floor) (c .entered .given .0 .1 .0)
+      (at-first .first .given .0 .1 .0) (at-start .args .left - 1) Σ (within o a (first-typed at-first R .type) Γ) b
+  second-ready-here c R =
+      let at-first = before-enter t (before-entered t c) in
+      let at-start = before-shared-slice-known t (before-kind t (before-else3 t (before-joined4 t (before-first t at-first)))) in
+      let p = at-start .pre .1 in second-ready R _ _ _ _ _ _ (first-typed at-first R) (test-passed c R) (p .below) (mid-length t c) (p .room)
 
 -- and has it again behind the second child
-back : (t : ℕ) (c : lts.After-entered (calls t) (given t) derive.Post) (part : List ℕ) → length part ≡ length (rest-of (c .entered .given .0 .0) (c .before .before .before .before .enter .last .1 .0)) → length (whole-of (c .entered .given .0 .0) (c .before .before .before .before .enter .last .1 .0) part) ≡ length (c .before .before .before .before .before .before .before .before .before .before .before .before .before .before .before .before .before .before .before .before .before .args .ws .now)
+back : (t : ℕ) (c : lts.After-entered (calls t) (given t) derive.Post) (part : List ℕ) →
+    let at-enter = before-entered t c in
+    let at-start = before-shared-slice-known t (before-kind t (before-else3 t (before-joined4 t (before-first t (before-enter t at-enter))))) in
+    length part ≡ length (rest-of (c .entered .given .0 .0) (at-enter .enter .last .1 .0)) → length
+    (whole-of (c .entered .given .0 .0) (at-enter .enter .last .1 .0) part) ≡ length (at-start .args .ws .now)
 back t c part e =
-    let R = node-at t (c .before .before .before .before .before .before .before .before .before .before .before .before) .ready-node in
-    whole-length (c .entered .given .0 .0) (c .before .before .before .before .enter .last .1 .0) part (omega (arith, level-kept t c R, two-deep R, c .before .before .before .before .before .before .before .before .before .before .before .before .before .before .before .before .before .before .before .before .before .pre .1 .room, mid-length t c)) e ∙ mid-length t c
+    let at-enter = before-entered t c in
+    let at-else3 = before-enter t at-enter .before .before .before .before .before in
+    let at-start = before-shared-slice-known t (before-kind t (before-else3 t at-else3)) in
+    let R = node-at t at-else3 .ready-node in
+    whole-length (c .entered .given .0 .0) (at-enter .enter .last .1 .0) part
+    (omega (arith, level-kept t c R, two-deep R, at-start .pre .1 .room, mid-length t c)) e ∙ mid-length t c
 
 mul-word : (t : ℕ) → lts.Need-mul-word (calls t) (given t) derive.Post
 mul-word t c = let r = place-within t (c .before .before .before .before) in omega arith
@@ -137,45 +270,72 @@ kind-requires : (t : ℕ) → lts.Need-kind-requires (calls t) (given t) derive.
 kind-requires t c κs = search needs
 
 atom-requires : (t : ℕ) → lts.Need-atom-requires (calls t) (given t) derive.Post
-atom-requires t c κs = let p = c .before .before .before .before .before .before .before .before .pre .1 in record { Σ = p .Σ; declared = p .ready .declared; room = omega (arith, p .room); place = omega (arith, p .short, place-within t (c .before .before .before .before .before .before .before .before)) }
+atom-requires t c κs =
+    let at-start = before-shared-slice-known t (before-kind t (c .before .before)) in
+    let p = at-start .pre .1 in
+    record { Σ = p .Σ; declared = p .ready .declared; room = omega (arith, p .room); place = omega (arith, p .short, place-within t at-start) }
 
 same-length : (t : ℕ) → lts.Need-same-length (calls t) (given t) derive.Post
 same-length t c = search needs
 
 returns : (t : ℕ) → lts.Need-returns (calls t) (given t) derive.Post
 returns t c =
-    let s = c .before .before .before .before .before .before .before .before .before .before .before in
-    λ Σ Γ u R. atom-derived (c .before .before .before .before .before .kind .result) _ (c .before .before .atom .result) (c .before .before .atom .kept .1 .1 .0) (omega (arith, s .pre .1 .room)) u (c .before .before .before .before .if1 .taken) (kind-known t (c .before .before .before .before .before) u (R .here)) R (c .before .before .atom .ensures)
+    let at-kind = c .before .before .before .before .before in
+    let s = before-shared-slice-known t (before-kind t at-kind) in
+    λ Σ Γ u R. atom-derived (at-kind .kind .result) _ (c .before .before .atom .result) (c .before .before .atom .kept .1 .1 .0)
+    (omega (arith, s .pre .1 .room)) u (c .before .before .before .before .if1 .taken) (kind-known t at-kind u (R .here)) R
+    (c .before .before .atom .ensures)
 
 payload-of-requires : (t : ℕ) → lts.Need-payload-of-requires (calls t) (given t) derive.Post
 payload-of-requires t c κs = search needs
 
 variable-requires : (t : ℕ) → lts.Need-variable-requires (calls t) (given t) derive.Post
 variable-requires t c κs =
-    let p = c .before .before .before .before .before .before .before .before .before .before .pre .1 in
-    record { Γ = p .Γ; binders = p .ready .binders; few = omega (arith, p .ready .few); number = omega (arith, c .payload-of .ensures); below = p .below; room = omega (arith, p .room); place = omega (arith, p .short, place-within t (c .before .before .before .before .before .before .before .before .before .before)) }
+    let at-start = before-shared-slice-known t (before-kind t (before-payload-of t c)) in
+    let p = at-start .pre .1 in
+    record {
+      Γ = p .Γ;
+      binders = p .ready .binders;
+      few = omega (arith, p .ready .few);
+      number = omega (arith, c .payload-of .ensures);
+      below = p .below;
+      room = omega (arith, p .room);
+      place = omega (arith, p .short, place-within t at-start);
+    }
 
 same-length-2 : (t : ℕ) → lts.Need-same-length-2 (calls t) (given t) derive.Post
 same-length-2 t c = search needs
 
 returns-2 : (t : ℕ) → lts.Need-returns-2 (calls t) (given t) derive.Post
 returns-2 t c =
-    let s = c .before .before .before .before .before .before .before .before .before .before .before .before .before in
-    λ Σ Γ u R. variable-derived (c .before .before .before .before .before .before .before .kind .result) _ (c .before .before .variable .result) (c .before .before .variable .kept .1 .0) (omega (arith, s .pre .1 .room)) u (c .before .before .before .before .before .if2 .taken) (kind-known t (c .before .before .before .before .before .before .before) u (R .here)) R (c .before .before .before .payload-of .result) (c .before .before .before .payload-of .ensures) (c .before .before .variable .ensures)
+    let at-payload-of = c .before .before .before in
+    let at-kind = before-payload-of t at-payload-of in
+    let s = before-shared-slice-known t (before-kind t at-kind) in
+    λ Σ Γ u R. variable-derived (at-kind .kind .result) _ (c .before .before .variable .result) (c .before .before .variable .kept .1 .0)
+    (omega (arith, s .pre .1 .room)) u (c .before .before .before .before .before .if2 .taken) (kind-known t at-kind u (R .here)) R
+    (at-payload-of .payload-of .result) (at-payload-of .payload-of .ensures) (c .before .before .variable .ensures)
 
 add-derive : (t : ℕ) → lts.Need-add-derive (calls t) (given t) derive.Post
-add-derive t c = let r = place-within t (c .before .before .before .before .before .before .before .before .before .before) in omega arith
+add-derive t c =
+    let at-start = before-shared-slice-known t (before-kind t (before-then3 t (c .before))) in
+    let r = place-within t at-start in omega arith
 
 sub-derive : (t : ℕ) → lts.Need-sub-derive (calls t) (given t) derive.Post
-sub-derive t c = let r = deep t (c .before .before .before .before .before .before .before .before .before .before) in omega arith
+sub-derive t c =
+    let at-start = before-shared-slice-known t (before-kind t (before-then3 t (c .before))) in
+    let r = deep t at-start in omega arith
 
 derive-requires : (t : ℕ) → lts.Need-derive-requires (calls t) (given t) derive.Post
 derive-requires t c κs =
-    let s = c .before .before .before .before .before .before .before .before .before .before in
+    let at-then3 = c .before in
+    let s = before-shared-slice-known t (before-kind t (before-then3 t at-then3)) in
     let p = s .pre .1 in
-    let S = sign-at t (c .before) in
-    let d = deep t s in
-    (omega arith, record { Σ = p .Σ; Γ = []; term = S .q; ready = sign-ready (S .ready-sign); short = p .short; below = omega arith; room = omega (arith, p .room) })
+    let S = sign-at t at-then3 in
+    let d = deep t s in (
+      omega arith,
+      record
+          { Σ = p .Σ; Γ = []; term = S .q; ready = sign-ready (S .ready-sign); short = p .short; below = omega arith; room = omega (arith, p .room) },
+    )
 
 enum-known-inner : (t : ℕ) → lts.Need-enum-known-inner (calls t) (given t) derive.Post
 enum-known-inner t c = search needs
@@ -188,27 +348,47 @@ same-length-3 t c = search needs
 
 returns-3 : (t : ℕ) → lts.Need-returns-3 (calls t) (given t) derive.Post
 returns-3 t c =
-    let s = c .before .before .before .before .before .before .before .before .before .before .before .before .before .before .before in
-    λ Σ Γ u R. sign-refused (c .before .before .before .before .before .before .before .before .before .kind .result) _ (c .before .before .before .before .derive .result) (c .before .before .before .before .derive .kept .1 .1 .1 .0) (omega (arith, s .pre .1 .room)) u _ _ (c .before .before .before .before .before .before .if3 .taken) (kind-known t (c .before .before .before .before .before .before .before .before .before) u (R .here)) R (c .before .before .before .before .derive .ensures) (c .enum-told .given .1)
+    let at-derive = c .before .before .before .before in
+    let at-then3 = before-derive t at-derive in
+    let at-kind = before-then3 t at-then3 in
+    let s = before-shared-slice-known t (before-kind t at-kind) in
+    λ Σ Γ u R. sign-refused (at-kind .kind .result) _ (at-derive .derive .result) (at-derive .derive .kept .1 .1 .1 .0)
+    (omega (arith, s .pre .1 .room)) u _ _ (at-then3 .if3 .taken) (kind-known t at-kind u (R .here)) R (at-derive .derive .ensures)
+    (c .enum-told .given .1)
 
 sign-requires : (t : ℕ) → lts.Need-sign-requires (calls t) (given t) derive.Post
 sign-requires t c κs =
-    let s = c .before .before .before .before .before .before .before .before .before .before .before .before .before .before .before .before .before in
+    let at-inner = c .before .before in
+    let at-derive = before-inner t at-inner in
+    let at-then3 = before-derive t at-derive in
+    let at-kind = before-then3 t at-then3 in
+    let s = before-shared-slice-known t (before-kind t at-kind) in
     let p = s .pre .1 in
-    let S = signed-in (p .term) (c .before .before .before .before .before .before .before .before .before .before .before .kind .result) _ (c .before .before .before .before .before .before .derive .result) _ _ (c .before .before .before .before .before .before .before .before .if3 .taken) (kind-known t (c .before .before .before .before .before .before .before .before .before .before .before) (p .term) (p .ready .here)) (p .ready) (c .before .before .before .before .before .before .derive .ensures) (c .before .before .inner .given .1) in
-    record { a = S .a; q = S .q; s = S .s; signs = S .signs; short = p .short; room = omega (arith, p .room, c .before .before .before .before .before .before .derive .kept .1 .1 .1 .0) }
+    let S = signed-in (p .term) (at-kind .kind .result) _ (at-derive .derive .result) _ _ (at-then3 .if3 .taken)
+    (kind-known t at-kind (p .term) (p .ready .here)) (p .ready) (at-derive .derive .ensures) (at-inner .inner .given .1) in
+    record { a = S .a; q = S .q; s = S .s; signs = S .signs; short = p .short; room = omega (arith, p .room, at-derive .derive .kept .1 .1 .1 .0) }
 
 same-length-4 : (t : ℕ) → lts.Need-same-length-4 (calls t) (given t) derive.Post
-same-length-4 t c = c .before .before .sign .kept .1 .0 ∙ c .before .before .before .before .before .before .before .before .before .derive .kept .1 .1 .1 .0
+same-length-4 t c =
+    let at-derive = before-inner t (c .before .before .before .before .before) in
+    c .before .before .sign .kept .1 .0 ∙ at-derive .derive .kept .1 .1 .1 .0
 
 returns-4 : (t : ℕ) → lts.Need-returns-4 (calls t) (given t) derive.Post
 returns-4 t c =
-    let s = c .before .before .before .before .before .before .before .before .before .before .before .before .before .before .before .before .before .before .before .before in
-    λ Σ Γ u R. let S = signed-in u (c .before .before .before .before .before .before .before .before .before .before .before .before .before .before .kind .result) _ (c .before .before .before .before .before .before .before .before .before .derive .result) _ _ (c .before .before .before .before .before .before .before .before .before .before .before .if3 .taken) (kind-known t (c .before .before .before .before .before .before .before .before .before .before .before .before .before .before) u (R .here)) R (c .before .before .before .before .before .before .before .before .before .derive .ensures) (c .before .before .before .before .before .inner .given .1) in
-    sign-derived S _ (c .before .before .sign .result) (c .before .before .sign .kept .1 .0) (omega (arith, s .pre .1 .room, c .before .before .before .before .before .before .before .before .before .derive .kept .1 .1 .1 .0)) (c .before .before .sign .ensures (S .a) (S .q) (S .s) (S .signs))
+    let at-inner = c .before .before .before .before .before in
+    let at-derive = before-inner t at-inner in
+    let at-then3 = before-derive t at-derive in
+    let at-kind = before-then3 t at-then3 in
+    let s = before-shared-slice-known t (before-kind t at-kind) in
+    λ Σ Γ u R. let S = signed-in u (at-kind .kind .result) _ (at-derive .derive .result) _ _ (at-then3 .if3 .taken) (kind-known t at-kind u (R .here))
+    R (at-derive .derive .ensures) (at-inner .inner .given .1) in
+    sign-derived S _ (c .before .before .sign .result) (c .before .before .sign .kept .1 .0)
+    (omega (arith, s .pre .1 .room, at-derive .derive .kept .1 .1 .1 .0)) (c .before .before .sign .ensures (S .a) (S .q) (S .s) (S .signs))
 
 add-head : (t : ℕ) → lts.Need-add-head (calls t) (given t) derive.Post
-add-head t c = let r = place-within t (c .before .before .before .before .before .before .before .before .before) in omega arith
+add-head t c =
+    let at-start = before-shared-slice-known t (before-kind t (before-else3 t c)) in
+    let r = place-within t at-start in omega arith
 
 mul-head : (t : ℕ) → lts.Need-mul-head (calls t) (given t) derive.Post
 mul-head t c = let r = child-within t c in omega arith
@@ -220,24 +400,38 @@ kind-requires-2 : (t : ℕ) → lts.Need-kind-requires-2 (calls t) (given t) der
 kind-requires-2 t c κs = search needs
 
 add-atom : (t : ℕ) → lts.Need-add-atom (calls t) (given t) derive.Post
-add-atom t c = let r = place-within t (c .before .before .before .before .before .before .before .before .before .before .before .before .before) in omega arith
+add-atom t c =
+    let at-start = before-shared-slice-known t (before-kind t (before-else3 t (c .before .before .before .before))) in
+    let r = place-within t at-start in omega arith
 
 atom-requires-2 : (t : ℕ) → lts.Need-atom-requires-2 (calls t) (given t) derive.Post
-atom-requires-2 t c κs = let p = c .before .before .before .before .before .before .before .before .before .before .before .before .before .pre .1 in record { Σ = p .Σ; declared = p .ready .declared; room = omega (arith, p .room); place = omega (arith, p .short, child-within t (c .before .before .before .before)) }
+atom-requires-2 t c κs =
+    let at-else3 = c .before .before .before .before in
+    let at-start = before-shared-slice-known t (before-kind t (before-else3 t at-else3)) in
+    let p = at-start .pre .1 in
+    record { Σ = p .Σ; declared = p .ready .declared; room = omega (arith, p .room); place = omega (arith, p .short, child-within t at-else3) }
 
 add-derive-2 : (t : ℕ) → lts.Need-add-derive-2 (calls t) (given t) derive.Post
-add-derive-2 t c = let r = place-within t (c .before .before .before .before .before .before .before .before .before .before .before .before .before) in omega arith
+add-derive-2 t c =
+    let at-start = before-shared-slice-known t (before-kind t (before-else3 t (c .before .before .before .before))) in
+    let r = place-within t at-start in omega arith
 
 sub-derive-2 : (t : ℕ) → lts.Need-sub-derive-2 (calls t) (given t) derive.Post
-sub-derive-2 t c = let r = deep t (c .before .before .before .before .before .before .before .before .before .before .before .before .before) in omega arith
+sub-derive-2 t c =
+    let at-start = before-shared-slice-known t (before-kind t (before-else3 t (c .before .before .before .before))) in
+    let r = deep t at-start in omega arith
 
 derive-requires-2 : (t : ℕ) → lts.Need-derive-requires-2 (calls t) (given t) derive.Post
 derive-requires-2 t c κs =
-    let s = c .before .before .before .before .before .before .before .before .before .before .before .before .before in
+    let at-else3 = c .before .before .before .before in
+    let s = before-shared-slice-known t (before-kind t (before-else3 t at-else3)) in
     let p = s .pre .1 in
-    let M = node-at t (c .before .before .before .before) in
-    let d = deep t s in
-    (omega arith, record { Σ = p .Σ; Γ = p .Γ; term = M .a; ready = first-ready (M .ready-node); short = p .short; below = p .below; room = omega (arith, p .room) })
+    let M = node-at t at-else3 in
+    let d = deep t s in (
+      omega arith,
+      record
+          { Σ = p .Σ; Γ = p .Γ; term = M .a; ready = first-ready (M .ready-node); short = p .short; below = p .below; room = omega (arith, p .room) },
+    )
 
 enum-known-first : (t : ℕ) → lts.Need-enum-known-first (calls t) (given t) derive.Post
 enum-known-first t c = search needs
@@ -250,52 +444,97 @@ same-length-5 t c = first-length t (c .before .before)
 
 returns-5 : (t : ℕ) → lts.Need-returns-5 (calls t) (given t) derive.Post
 returns-5 t c =
-    λ Σ Γ u R. as-node t (c .before .before .before .before .before) Σ Γ u (Gives t (c .before .before .before .before .before .before .before .before .before .before .before .before .before .before) Σ Γ (c .before .before .if4 .ws) (c .before .before .if4 .first)) R (λ o a b R. first-refusal _ (c .before .before .if4 .first) _ _ R (first-derives t (c .before .before)) (c .enum-told2 .given .1))
+    let at-joined4 = c .before .before in
+    let at-else3 = before-joined4 t at-joined4 in
+    let at-start = before-shared-slice-known t (before-kind t (before-else3 t at-else3)) in
+    λ Σ Γ u R. as-node t at-else3 Σ Γ u (Gives t at-start Σ Γ (at-joined4 .if4 .ws) (at-joined4 .if4 .first)) R
+    (λ o a b R. first-refusal _ (at-joined4 .if4 .first) _ _ R (first-derives t at-joined4) (c .enum-told2 .given .1))
 
 enter-requires : (t : ℕ) → lts.Need-enter-requires (calls t) (given t) derive.Post
 enter-requires t c κs =
-    let s = c .before .before .before .before .before .before .before .before .before .before .before .before .before .before .before .before in
+    let at-first = c .before .before in
+    let at-joined4 = before-first t at-first in
+    let at-else3 = before-joined4 t at-joined4 in
+    let s = before-shared-slice-known t (before-kind t (before-else3 t at-else3)) in
     let p = s .pre .1 in
-    let M = node-at t (c .before .before .before .before .before .before .before) in
-    let B = first-typed t (c .before .before) (M .ready-node) in
+    let M = node-at t at-else3 in
+    let B = first-typed t at-first (M .ready-node) in
     let d = two-deep (M .ready-node) in
-    record { o = M .o; a = M .a; A = B .type; enters = B .enters; small = omega (arith, B .enters .type-words, B .small); short = p .short; room = omega (arith, p .room, d, first-length t (c .before .before .before .before)) }
+    record {
+      o = M .o;
+      a = M .a;
+      A = B .type;
+      enters = B .enters;
+      small = omega (arith, B .enters .type-words, B .small);
+      short = p .short;
+      room = omega (arith, p .room, d, first-length t at-joined4);
+    }
 
 enum-known-entered : (t : ℕ) → lts.Need-enum-known-entered (calls t) (given t) derive.Post
 enum-known-entered t c = search needs
 
 mul-derive : (t : ℕ) → lts.Need-mul-derive (calls t) (given t) derive.Post
 mul-derive t c =
-    let s = c .before .before .before .before .before .before .before .before .before .before .before .before .before .before .before .before .before .before .before .before .before .before in
-    let M = node-at t (c .before .before .before .before .before .before .before .before .before .before .before .before .before) in
-    omega (arith, level-kept t (c .before) (M .ready-node), two-deep (M .ready-node), s .pre .1 .room, mid-length t (c .before), s .good .1 .1 .1 .0)
+    let at-entered = c .before in
+    let at-else3 = before-enter t (before-entered t at-entered) .before .before .before .before .before in
+    let s = before-shared-slice-known t (before-kind t (before-else3 t at-else3)) in
+    let M = node-at t at-else3 in
+    omega (arith, level-kept t at-entered (M .ready-node), two-deep (M .ready-node), s .pre .1 .room, mid-length t at-entered, s .good .1 .1 .1 .0)
 
 sub-derive-3 : (t : ℕ) → lts.Need-sub-derive-3 (calls t) (given t) derive.Post
 sub-derive-3 t c =
-    let s = c .before .before .before .before .before .before .before .before .before .before .before .before .before .before .before .before .before .before .before .before .before .before in
-    let M = node-at t (c .before .before .before .before .before .before .before .before .before .before .before .before .before) in
-    omega (arith, level-kept t (c .before) (M .ready-node), two-deep (M .ready-node), s .pre .1 .room, mid-length t (c .before))
+    let at-entered = c .before in
+    let at-else3 = before-enter t (before-entered t at-entered) .before .before .before .before .before in
+    let s = before-shared-slice-known t (before-kind t (before-else3 t at-else3)) in
+    let M = node-at t at-else3 in
+    omega (arith, level-kept t at-entered (M .ready-node), two-deep (M .ready-node), s .pre .1 .room, mid-length t at-entered)
 
 part-derive-start : (t : ℕ) → lts.Need-part-derive-start (calls t) (given t) derive.Post
 part-derive-start t c =
-    let s = c .before .before .before .before .before .before .before .before .before .before .before .before .before .before .before .before .before .before .before .before .before .before in
-    let M = node-at t (c .before .before .before .before .before .before .before .before .before .before .before .before .before) in
-    omega (arith, level-kept t (c .before) (M .ready-node), two-deep (M .ready-node), s .pre .1 .room, mid-length t (c .before))
+    let at-entered = c .before in
+    let at-else3 = before-enter t (before-entered t at-entered) .before .before .before .before .before in
+    let s = before-shared-slice-known t (before-kind t (before-else3 t at-else3)) in
+    let M = node-at t at-else3 in
+    omega (arith, level-kept t at-entered (M .ready-node), two-deep (M .ready-node), s .pre .1 .room, mid-length t at-entered)
 
 part-derive-end : (t : ℕ) → lts.Need-part-derive-end (calls t) (given t) derive.Post
 part-derive-end t c = search needs
 
 sub-derive-4 : (t : ℕ) → lts.Need-sub-derive-4 (calls t) (given t) derive.Post
-sub-derive-4 t c = let r = deep t (c .before .before .before .before .before .before .before .before .before .before .before .before .before .before .before .before .before .before .before .before .before .before .before) in omega arith
+sub-derive-4 t c =
+    let at-start = before-shared-slice-known t
+    (before-kind t (before-else3 t (before-joined4 t (before-first t (before-enter t (before-entered t (c .before .before))))))) in
+    let r = deep t at-start in omega arith
 
 derive-requires-3 : (t : ℕ) → lts.Need-derive-requires-3 (calls t) (given t) derive.Post
 derive-requires-3 t c κs =
-    let s = c .before .before .before .before .before .before .before .before .before .before .before .before .before .before .before .before .before .before .before .before .before .before .before in
+    let at-entered = c .before .before in
+    let at-enter = before-entered t at-entered in
+    let at-else3 = before-enter t at-enter .before .before .before .before .before in
+    let s = before-shared-slice-known t (before-kind t (before-else3 t at-else3)) in
     let p = s .pre .1 in
-    let M = node-at t (c .before .before .before .before .before .before .before .before .before .before .before .before .before .before) in
+    let M = node-at t at-else3 in
     let R = M .ready-node in
-    let I = test-passed t (c .before .before) R in
-    (omega (arith, two-deep R, s .pre .0), record { Σ = p .Σ; Γ = _; term = M .b; ready = second-ready-here t (c .before .before) R; short = p .short; below = omega (arith, p .below, I .kept-is); room = omega (arith, p .room, two-deep R, level-kept t (c .before .before) R, mid-length t (c .before .before), rest-length (c .before .before .entered .given .0 .0) (c .before .before .before .before .before .before .enter .last .1 .0)) })
+    let I = test-passed t at-entered R in (
+      omega (arith, two-deep R, s .pre .0),
+      record {
+        Σ = p .Σ;
+        Γ = _;
+        term = M .b;
+        ready = second-ready-here t at-entered R;
+        short = p .short;
+        below = omega (arith, p .below, I .kept-is);
+        room = omega (
+          arith,
+          p .room,
+          two-deep R,
+          level-kept t at-entered R,
+          mid-length t at-entered,
+          rest-length (at-entered .entered .given .0 .0)
+              (at-enter .enter .last .1 .0),
+        );
+      },
+    )
 
 enum-known-second : (t : ℕ) → lts.Need-enum-known-second (calls t) (given t) derive.Post
 enum-known-second t c = search needs
@@ -304,40 +543,82 @@ enum-told-3 : (t : ℕ) → lts.Need-enum-told-3 (calls t) (given t) derive.Post
 enum-told-3 t c = search needs
 
 same-length-6 : (t : ℕ) → lts.Need-same-length-6 (calls t) (given t) derive.Post
-same-length-6 t c = back t (c .before .before .before .before .before .before .before) (c .before .before .before .before .derive3 .last .1 .1 .1 .0) (c .before .before .before .before .derive3 .kept .1 .1 .1 .0)
+same-length-6 t c =
+    let at-derive3 = c .before .before .before .before in
+    let at-entered = before-derive3 t at-derive3 in
+    back t at-entered (at-derive3 .derive3 .last .1 .1 .1 .0) (at-derive3 .derive3 .kept .1 .1 .1 .0)
 
 returns-6 : (t : ℕ) → lts.Need-returns-6 (calls t) (given t) derive.Post
 returns-6 t c =
-    let p = c .before .before .before .before .before .before .before .before .before .before .before .before .before .before .before .before .before .before .before .before .before .before .before .before .before .before .before .before .pre .1 in
-    λ Σ Γ u R. as-node t (c .before .before .before .before .before .before .before .before .before .before .before .before .before .before .before .before .before .before .before) Σ Γ u (Gives t (c .before .before .before .before .before .before .before .before .before .before .before .before .before .before .before .before .before .before .before .before .before .before .before .before .before .before .before .before) Σ Γ (whole-of (c .before .before .before .before .before .before .before .entered .given .0 .0) (c .before .before .before .before .before .before .before .before .before .before .before .enter .last .1 .0) (c .before .before .before .before .derive3 .last .1 .1 .1 .0)) (c .before .before .before .before .derive3 .result)) R (λ o a b R. second-refusal R _ _ _ _ _ _ (first-typed t (c .before .before .before .before .before .before .before .before .before .before .before .before .before .before) R) (test-passed t (c .before .before .before .before .before .before .before) R) (p .below) (mid-length t (c .before .before .before .before .before .before .before)) (p .room) _ (c .before .before .before .before .derive3 .result) (c .before .before .before .before .derive3 .kept .1 .1 .1 .0) (c .before .before .before .before .derive3 .ensures) _ _ (c .enum-told3 .given .1))
+    let at-derive3 = c .before .before .before .before in
+    let at-entered = before-derive3 t at-derive3 in
+    let at-enter = before-entered t at-entered in
+    let at-first = before-enter t at-enter in
+    let at-else3 = at-first .before .before .before .before .before in
+    let at-start = before-shared-slice-known t (before-kind t (before-else3 t at-else3)) in
+    let p = at-start .pre .1 in
+    λ Σ Γ u R. as-node t at-else3 Σ Γ u
+    (Gives t at-start Σ Γ (whole-of (at-entered .entered .given .0 .0) (at-enter .enter .last .1 .0) (at-derive3 .derive3 .last .1 .1 .1 .0))
+    (at-derive3 .derive3 .result)) R
+    (λ o a b R. second-refusal R _ _ _ _ _ _ (first-typed t at-first R) (test-passed t at-entered R) (p .below) (mid-length t at-entered) (p .room) _
+    (at-derive3 .derive3 .result) (at-derive3 .derive3 .kept .1 .1 .1 .0) (at-derive3 .derive3 .ensures) _ _ (c .enum-told3 .given .1))
 
 formed-requires : (t : ℕ) → lts.Need-formed-requires (calls t) (given t) derive.Post
 formed-requires t c κs =
-    let p = c .before .before .before .before .before .before .before .before .before .before .before .before .before .before .before .before .before .before .before .before .before .before .before .before .before .before .before .before .before .before .pre .1 in
-    let M = node-at t (c .before .before .before .before .before .before .before .before .before .before .before .before .before .before .before .before .before .before .before .before .before) in
+    let at-second = c .before .before in
+    let at-derive3 = before-second t at-second in
+    let at-entered = before-derive3 t at-derive3 in
+    let at-first = before-enter t (before-entered t at-entered) in
+    let at-else3 = at-first .before .before .before .before .before in
+    let at-start = before-shared-slice-known t (before-kind t (before-else3 t at-else3)) in
+    let p = at-start .pre .1 in
+    let M = node-at t at-else3 in
     let R = M .ready-node in
-    formable R _ _ _ _ _ _ (first-typed t (c .before .before .before .before .before .before .before .before .before .before .before .before .before .before .before .before) R) (test-passed t (c .before .before .before .before .before .before .before .before .before) R) (p .below) (mid-length t (c .before .before .before .before .before .before .before .before .before)) (p .room) _ (c .before .before .before .before .before .before .derive3 .result) (c .before .before .before .before .before .before .derive3 .kept .1 .1 .1 .0) (c .before .before .before .before .before .before .derive3 .ensures) _ _ (c .before .before .second .given .1) (p .short)
+    formable R _ _ _ _ _ _ (first-typed t at-first R) (test-passed t at-entered R) (p .below) (mid-length t at-entered) (p .room) _
+    (at-derive3 .derive3 .result) (at-derive3 .derive3 .kept .1 .1 .1 .0) (at-derive3 .derive3 .ensures) _ _ (at-second .second .given .1) (p .short)
 
 same-length-7 : (t : ℕ) → lts.Need-same-length-7 (calls t) (given t) derive.Post
-same-length-7 t c = c .before .before .formed .kept .1 .0 ∙ back t (c .before .before .before .before .before .before .before .before .before .before .before .before) (c .before .before .before .before .before .before .before .before .before .derive3 .last .1 .1 .1 .0) (c .before .before .before .before .before .before .before .before .before .derive3 .kept .1 .1 .1 .0)
+same-length-7 t c =
+    let at-derive3 = before-second t (c .before .before .before .before .before) in
+    let at-entered = before-derive3 t at-derive3 in
+    c .before .before .formed .kept .1 .0 ∙ back t at-entered (at-derive3 .derive3 .last .1 .1 .1 .0) (at-derive3 .derive3 .kept .1 .1 .1 .0)
 
 returns-7 : (t : ℕ) → lts.Need-returns-7 (calls t) (given t) derive.Post
 returns-7 t c =
-    let p = c .before .before .before .before .before .before .before .before .before .before .before .before .before .before .before .before .before .before .before .before .before .before .before .before .before .before .before .before .before .before .before .before .before .pre .1 in
-    λ Σ Γ u R. as-node t (c .before .before .before .before .before .before .before .before .before .before .before .before .before .before .before .before .before .before .before .before .before .before .before .before) Σ Γ u (Gives t (c .before .before .before .before .before .before .before .before .before .before .before .before .before .before .before .before .before .before .before .before .before .before .before .before .before .before .before .before .before .before .before .before .before) Σ Γ (c .before .before .formed .last .1 .0) (c .before .before .formed .result)) R (λ o a b R.
-    node-derived R _ _ _ _ _ _ (first-typed t (c .before .before .before .before .before .before .before .before .before .before .before .before .before .before .before .before .before .before .before) R) (test-passed t (c .before .before .before .before .before .before .before .before .before .before .before .before) R) (p .below) (mid-length t (c .before .before .before .before .before .before .before .before .before .before .before .before)) (p .room) _ (c .before .before .before .before .before .before .before .before .before .derive3 .result) (c .before .before .before .before .before .before .before .before .before .derive3 .kept .1 .1 .1 .0) (c .before .before .before .before .before .before .before .before .before .derive3 .ensures) _ _ (c .before .before .before .before .before .second .given .1) _ (c .before .before .formed .result) (c .before .before .formed .kept .1 .0)
-    (c .before .before .formed .ensures o a b _ _ (forms-here R _ _ _ _ _ _ (first-typed t (c .before .before .before .before .before .before .before .before .before .before .before .before .before .before .before .before .before .before .before) R) (test-passed t (c .before .before .before .before .before .before .before .before .before .before .before .before) R) (p .below) (mid-length t (c .before .before .before .before .before .before .before .before .before .before .before .before)) (p .room) _ (c .before .before .before .before .before .before .before .before .before .derive3 .result) (c .before .before .before .before .before .before .before .before .before .derive3 .kept .1 .1 .1 .0) (c .before .before .before .before .before .before .before .before .before .derive3 .ensures) _ _ (c .before .before .before .before .before .second .given .1))))
+    let at-second = c .before .before .before .before .before in
+    let at-derive3 = before-second t at-second in
+    let at-entered = before-derive3 t at-derive3 in
+    let at-first = before-enter t (before-entered t at-entered) in
+    let at-else3 = at-first .before .before .before .before .before in
+    let at-start = before-shared-slice-known t (before-kind t (before-else3 t at-else3)) in
+    let p = at-start .pre .1 in
+    λ Σ Γ u R. as-node t at-else3 Σ Γ u (Gives t at-start Σ Γ (c .before .before .formed .last .1 .0) (c .before .before .formed .result)) R (λ o a b R.
+    node-derived R _ _ _ _ _ _ (first-typed t at-first R) (test-passed t at-entered R) (p .below) (mid-length t at-entered) (p .room) _
+    (at-derive3 .derive3 .result) (at-derive3 .derive3 .kept .1 .1 .1 .0) (at-derive3 .derive3 .ensures) _ _ (at-second .second .given .1) _
+    (c .before .before .formed .result) (c .before .before .formed .kept .1 .0)
+    (c .before .before .formed .ensures o a b _ _
+    (forms-here R _ _ _ _ _ _ (first-typed t at-first R) (test-passed t at-entered R) (p .below) (mid-length t at-entered) (p .room) _
+    (at-derive3 .derive3 .result) (at-derive3 .derive3 .kept .1 .1 .1 .0) (at-derive3 .derive3 .ensures) _ _ (at-second .second .given .1))))
 
 enum-known-entered-2 : (t : ℕ) → lts.Need-enum-known-entered-2 (calls t) (given t) derive.Post
 enum-known-entered-2 t c = search needs
 
 same-length-8 : (t : ℕ) → lts.Need-same-length-8 (calls t) (given t) derive.Post
-same-length-8 t c = c .before .before .before .before .before .enter .kept .1 .0 ∙ first-length t (c .before .before .before .before .before .before .before .before .before .before)
+same-length-8 t c =
+    let at-enter = c .before .before .before .before .before in
+    let at-joined4 = at-enter .before .before .before .before .before in
+    at-enter .enter .kept .1 .0 ∙ first-length t at-joined4
 
 returns-8 : (t : ℕ) → lts.Need-returns-8 (calls t) (given t) derive.Post
 returns-8 t c =
-    λ Σ Γ u R. as-node t (c .before .before .before .before .before .before .before .before .before .before .before .before .before) Σ Γ u (Gives t (c .before .before .before .before .before .before .before .before .before .before .before .before .before .before .before .before .before .before .before .before .before .before) Σ Γ (c .before .before .before .before .before .enter .last .1 .0) (Refused (c .before .entered2 .given .0 .0) (c .before .before .before .before .before .before .before .before .before .before .before .before .before .before .before .before .before .before .before .before .before .before .args .at))) R (λ o a b R. let B = first-typed t (c .before .before .before .before .before .before .before .before) R in
-    test-refusal _ _ _ _ R B (c .before .before .before .before .before .enter .result) _ (c .before .before .before .before .before .enter .ensures o a (B .type) (B .enters)) (c .before .entered2 .given .1))
+    let at-enter = c .before .before .before .before .before in
+    let at-first = before-enter t at-enter in
+    let at-else3 = at-first .before .before .before .before .before in
+    let at-start = before-shared-slice-known t (before-kind t (before-else3 t at-else3)) in
+    λ Σ Γ u R. as-node t at-else3 Σ Γ u
+    (Gives t at-start Σ Γ (at-enter .enter .last .1 .0) (Refused (c .before .entered2 .given .0 .0) (at-start .args .at))) R
+    (λ o a b R. let B = first-typed t at-first R in
+    test-refusal _ _ _ _ R B (at-enter .enter .result) _ (at-enter .enter .ensures o a (B .type) (B .enters)) (c .before .entered2 .given .1))
 
 pub +derive-spec : {M : Type 1} → statement M
 +derive-spec = close μ-derive λ t. lts.spec (calls t)
