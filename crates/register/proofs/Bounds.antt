@@ -1,6 +1,6 @@
 -- Every refusal of a call on the register has one of the numbers that documents 01 and 02 give it, and a place within what
 -- was lent.
-use Prim.Native.Nat.{ℕ, zero, suc, _+_, _-_, _≤_}
+use Prim.Native.Nat.{ℕ, zero, suc, _+_, _≤_}
 use mathlib.Core.Path.{_≡_, refl, sym, ap, _∙_}
 use mathlib.Core.Logic.{_≢_}
 use mathlib.Core.Bool.{Bool, true, false, _&&_, not}
@@ -10,7 +10,7 @@ use native.Mathlib.Omega.{arith}
 use lib.Dec.{leb, ltb, eqb}
 use lib.ListN.{length, take, drop, getElem?, length-drop, length-append}
 use borrow.Author.Tests.{leb-true}
-use Rattle.logic.specs.Limits.{most-type-words, most-words, most-nesting, most-statement-words, most-statement-nesting, least-workspace, least-register, most-register, most-constants, most-constant-words}
+use Rattle.logic.specs.Limits.{most-type-words, most-words, most-nesting, most-statement-words, most-statement-nesting, least-workspace, most-register, most-constants, most-constant-words}
 use Rattle.logic.specs.Refusals.{bad-signature, malformed, out-of-form, last-number}
 use Rattle.logic.specs.Result.{Result, ok, refused, _>>=_, _>>_, require, known, nowhere, pick}
 use Rattle.logic.specs.Term.{propA, typeA, stringA, prinA, kindPA, kindTA, constA, textA, nameA, saysO, piO, lamO, appO, retO, bindO, Atom, Term, atom, var, sign, node, P, N, Name, Says, Pi, encode, size}
@@ -26,8 +26,10 @@ use Rattle.logic.proofs.Reading.{read-right}
 use Rattle.logic.proofs.Malformed.{read-refused}
 use Rattle.logic.proofs.Searches.{too-deep-first, first-unheld-first}
 use Rattle.logic.proofs.Places.{stands-words}
-use Rattle.register.specs.Records.{Record, header, used, count, records, register-records, held, words-of, statement, say-kind}
-use Rattle.register.specs.Calls.{Lent, View, payload, Holding, length-test, shared, signs-held, fits, check-own, check-call, say-own, say-call, permission, entry, request-own, request-call, at-rule, with-rule, opening, open-own, open-call, read-call}
+use Rattle.register.specs.Records.{Record, Statement, Ask, Next, ended, cut, whole, header, rule-head, used, count, records, recorded, register-records, held, words-of, next-rule}
+use Rattle.register.specs.Calls.{Lent, Outline, View, outline-of, fresh-outline, payload, Holding, length-test, shared, signs-held, fits, check-own, check-call, say-own, say-call, permission, say-entry, entry, ask-test, request-own, request-call}
+use Rattle.register.specs.Calls.{at-rule, with-rule, rule-numbers, rule-own, opening, open-own, open-call, read-call}
+use Rattle.register.proofs.Opening.{next-rule-rest}
 
 -- a refusal number of document 01 or 02, of a call on the register: 21 is the extract desk's alone
 abbrev pub Number : ℕ → Type 0
@@ -215,78 +217,84 @@ signature-within sig = constants-within (suc (length sig)) 0 [] sig (omega arith
 
 -- tests 2 and 3 name no place
 length-within : (len : ℕ) → Within 0 (length-test len)
-length-within len = require-within (leb least-register len && leb len most-register) _ 0 (omega arith) (omega arith)
+length-within len = require-within (leb header len && leb len most-register) _ 0 (omega arith) (omega arith)
 
 records-within : (reg : List ℕ) → Within 0 (register-records reg)
 records-within reg =
     tested-within (leb header (used reg) && leb (used reg) (length reg)) _ 0 _ (omega arith) (omega arith) λ _.
-    bind-within (known _ 0 (records (used reg) (take (used reg - header) (drop header reg)))) _ (known-within _ 0 (records (used reg) (take (used reg - header) (drop header reg))) (omega arith) (omega arith)) λ rs _.
+    bind-within (known _ 0 (records (used reg) (recorded reg))) _ (known-within _ 0 (records (used reg) (recorded reg)) (omega arith) (omega arith)) λ rs _.
     then-within (require (eqb (length rs) (count reg)) _ 0) (ok rs) (require-within (eqb (length rs) (count reg)) _ 0 (omega arith) (omega arith)) passed
 
-module _ {Y : Type 0} {words : ℕ} (l : Lent) (len used : ℕ) where
+module _ {Y : Type 0} {words : ℕ} (l : Lent) (o : Outline) where
   -- behind the shared tests, a call's own have places within its own words
-  shared-within : (records : Result (List Record)) (own : View → Result Y) → Within 0 records → ((v : View) → Within words (own v)) → Within (length (l .sig) + words) (shared l len used records own)
+  shared-within : (records : Result (List Record)) (own : View → Result Y) → Within 0 records → ((v : View) → Within words (own v)) → Within (length (l .sig) + words) (shared l o records own)
   shared-within records own r f =
       tested-within (leb least-workspace (l .workspace)) _ 0 _ (omega arith) (omega arith) λ _.
-      then-within (length-test len) _ (wider (omega arith) (length-within len)) (
+      then-within (length-test (o .size)) _ (wider (omega arith) (length-within (o .size))) (
       bind-within records _ (wider (omega arith) r) λ rs _.
       bind-within (signature (l .sig)) _ (wider (omega arith) (signature-within (l .sig))) λ Σ _.
       tested-within (operations-test Σ (l .n)) _ 0 _ (omega arith) (omega arith) λ _.
       wider (omega arith) (f _))
 
 fits-within : {bound : ℕ} (v : View) (rs : List Record) → Within bound (fits v rs)
-fits-within v rs = require-within (leb (v .used + length (words-of rs)) (v .size)) _ 0 (omega arith) (omega arith)
+fits-within v rs = require-within (leb (v .outline .used + length (words-of rs)) (v .outline .size)) _ 0 (omega arith) (omega arith)
 
 check-own-within : (ws : List ℕ) (v : View) → Within (length ws) (check-own ws v)
 check-own-within ws v =
     bind-within (check-term (v .Σ) ws) _ (check-within (v .Σ) ws) λ c e.
     then-within (signs-held (v .holds) (c .term)) (ok (c .type)) (wider (omega (arith, check-size (v .Σ) ws c e)) (signs-within (v .holds) (c .term))) passed
 
-say-own-within : (a : ℕ) (ws : List ℕ) (v : View) → Within (length ws) (say-own a ws v)
-say-own-within a ws v =
-    tested-within (payload a) _ 0 _ (omega arith) (omega arith) λ _. tested-within (not (eqb a 0)) _ 0 _ (omega arith) (omega arith) λ _.
-    bind-within (check-statement (v .Σ) a ws) _ (statement-within (v .Σ) a ws) λ q e.
-    then-within (signs-held (v .holds) q) _ (wider (omega (arith, statement-size (v .Σ) a ws q e)) (signs-within (v .holds) q))
-    (pick-within (v .holds a ws) _ _ passed (then-within (fits v (statement say-kind a ws ∷ [])) (ok true) (fits-within v (statement say-kind a ws ∷ [])) passed))
+say-own-within : (st : Statement) (v : View) → Within (length (st .words)) (say-own st v)
+say-own-within st v =
+    tested-within (payload (st .principal)) _ 0 _ (omega arith) (omega arith) λ _. tested-within (not (eqb (st .principal) 0)) _ 0 _ (omega arith) (omega arith) λ _.
+    bind-within (check-statement (v .Σ) (st .principal) (st .words)) _ (statement-within (v .Σ) (st .principal) (st .words)) λ q e.
+    then-within (signs-held (v .holds) q) _ (wider (omega (arith, statement-size (v .Σ) (st .principal) (st .words) q e)) (signs-within (v .holds) q))
+    (pick-within (v .holds (st .principal) (st .words)) _ _ passed (then-within (fits v (say-entry st)) (ok true) (fits-within v (say-entry st)) passed))
 
-request-own-within : (i v u : ℕ) (ws : List ℕ) (s : View) → Within (length ws) (request-own i v u ws s)
-request-own-within i v u ws s =
-    tested-within (ltb i (s .n) && payload v && payload u) _ 0 _ (omega arith) (omega arith) λ _.
-    bind-within (check-term (s .Σ) ws) _ (check-within (s .Σ) ws) λ c e.
-    tested-within (same (c .type) (permission i v)) _ 0 _ (omega arith) (omega arith) λ _.
-    then-within (signs-held (s .holds) (c .term)) _ (wider (omega (arith, check-size (s .Σ) ws c e)) (signs-within (s .holds) (c .term))) (fits-within s (entry i v u ws))
+request-own-within : (k : Ask) (s : View) → Within (length (k .proof)) (request-own k s)
+request-own-within k s =
+    tested-within (ask-test (s .n) k) _ 0 _ (omega arith) (omega arith) λ _.
+    bind-within (check-term (s .Σ) (k .proof)) _ (check-within (s .Σ) (k .proof)) λ c e.
+    tested-within (same (c .type) (permission k)) _ 0 _ (omega arith) (omega arith) λ _.
+    then-within (signs-held (s .holds) (c .term)) _ (wider (omega (arith, check-size (s .Σ) (k .proof) c e)) (signs-within (s .holds) (c .term))) (fits-within s (entry k))
+
+rule-numbers-within : {bound : ℕ} (at : ℕ) (st : Statement) (n : ℕ) → at ≤ bound → Within bound (rule-numbers at st n)
+rule-numbers-within at st n h =
+    tested-within (payload (st .principal)) _ at _ (omega arith) h λ _. require-within (leb 1 n && leb n most-statement-words) _ at (omega arith) h
 
 -- a refusal of a rule is at its principal word
-opening-within : {bound : ℕ} (k at : ℕ) (Σ : List Term) (rs : List Record) (ws : List ℕ) → at + length ws ≤ bound → Within bound (opening k at Σ rs ws)
+opening-within : {bound : ℕ} (k : ℕ) (Σ : List Term) (at : ℕ) (rs : List Record) (ws : List ℕ) → at + length ws ≤ bound → Within bound (opening k Σ at rs ws)
 unfolding opening
-opening-within zero at Σ rs ws h = inside {m = malformed} {p = at} (omega arith) (omega arith)
-opening-within (suc k) at Σ rs [] h = passed
-opening-within (suc k) at Σ rs (a ∷ []) h = tested-within (payload a) _ at _ (omega arith) (omega arith) λ _. inside {m = malformed} {p = at} (omega arith) (omega arith)
-opening-within (suc k) at Σ rs (a ∷ n ∷ ws) h =
-    tested-within (payload a) _ at _ (omega arith) (omega arith) λ _. tested-within (leb 1 n && leb n most-statement-words) _ at _ (omega arith) (omega arith) λ _.
-    tested-within (leb n (length ws)) _ at _ (omega arith) (omega arith) λ t.
-    bind-within (at-rule at (check-statement Σ a (take n ws))) _ (at-rule-within at (check-statement Σ a (take n ws)) (omega arith) (statement-within Σ a (take n ws))) λ q _.
-    then-within (at-rule at (signs-held (held rs) q)) _ (at-rule-within at (signs-held (held rs) q) (omega arith) (signs-within (held rs) q))
-    (opening-within k (at + 2 + n) Σ (with-rule rs a (take n ws)) (drop n ws) (omega (arith, length-drop n ws, leb-true n (length ws) t)))
+opening-within zero Σ at rs ws h = inside {m = malformed} {p = at} (omega arith) (omega arith)
+opening-within {bound} (suc k) Σ at rs ws h = go (next-rule ws) refl (λ at rs ws. opening-within k Σ at rs ws)
+  where
+    go : (x : Next) → next-rule ws ≡ x → ((at : ℕ) (rs : List Record) (ws : List ℕ) → at + length ws ≤ bound → Within bound (opening k Σ at rs ws)) → Within bound (rule-own (opening k Σ) at Σ rs x)
+    go ended e ih = passed
+    go (cut st n) e ih = then-within (rule-numbers at st n) _ (rule-numbers-within at st n (omega arith)) (inside {m = malformed} {p = at} (omega arith) (omega arith))
+    go (whole st rest) e ih =
+        then-within (rule-numbers at st (length (st .words))) _ (rule-numbers-within at st (length (st .words)) (omega arith)) (
+        bind-within (at-rule at (check-statement Σ (st .principal) (st .words))) _ (at-rule-within at (check-statement Σ (st .principal) (st .words)) (omega arith) (statement-within Σ (st .principal) (st .words))) λ q _.
+        then-within (at-rule at (signs-held (held rs) q)) _ (at-rule-within at (signs-held (held rs) q) (omega arith) (signs-within (held rs) q))
+        (ih (at + rule-head + length (st .words)) (with-rule rs st) rest (omega (arith, next-rule-rest ws e))))
 
 open-own-within : (rules : List ℕ) (s : View) → Within (length rules) (open-own rules s)
 open-own-within rules s =
-    bind-within (opening (suc (length rules)) 0 (s .Σ) [] rules) _ (opening-within (suc (length rules)) 0 (s .Σ) [] rules (omega arith)) λ rs _.
+    bind-within (opening (suc (length rules)) (s .Σ) 0 [] rules) _ (opening-within (suc (length rules)) (s .Σ) 0 [] rules (omega arith)) λ rs _.
     then-within (fits s rs) (ok rs) (fits-within s rs) passed
 
 -- ---- the statements, of each call
 
 pub check-bound : (l : Lent) (reg ws : List ℕ) {m p : ℕ} → check-call l reg ws ≡ refused m p → Number m × (p ≤ length (l .sig) + length ws)
-check-bound l reg ws e = refusal (shared-within l (length reg) (used reg) (register-records reg) (check-own ws) (records-within reg) (check-own-within ws)) e
+check-bound l reg ws e = refusal (shared-within l (outline-of reg) (register-records reg) (check-own ws) (records-within reg) (check-own-within ws)) e
 
-pub say-bound : (l : Lent) (reg : List ℕ) (a : ℕ) (ws : List ℕ) {m p : ℕ} → say-call l reg a ws ≡ refused m p → Number m × (p ≤ length (l .sig) + length ws)
-say-bound l reg a ws e = refusal (shared-within l (length reg) (used reg) (register-records reg) (say-own a ws) (records-within reg) (say-own-within a ws)) e
+pub say-bound : (l : Lent) (reg : List ℕ) (st : Statement) {m p : ℕ} → say-call l reg st ≡ refused m p → Number m × (p ≤ length (l .sig) + length (st .words))
+say-bound l reg st e = refusal (shared-within l (outline-of reg) (register-records reg) (say-own st) (records-within reg) (say-own-within st)) e
 
-pub request-bound : (l : Lent) (reg : List ℕ) (i v u : ℕ) (ws : List ℕ) {m p : ℕ} → request-call l reg i v u ws ≡ refused m p → Number m × (p ≤ length (l .sig) + length ws)
-request-bound l reg i v u ws e = refusal (shared-within l (length reg) (used reg) (register-records reg) (request-own i v u ws) (records-within reg) (request-own-within i v u ws)) e
+pub request-bound : (l : Lent) (reg : List ℕ) (k : Ask) {m p : ℕ} → request-call l reg k ≡ refused m p → Number m × (p ≤ length (l .sig) + length (k .proof))
+request-bound l reg k e = refusal (shared-within l (outline-of reg) (register-records reg) (request-own k) (records-within reg) (request-own-within k)) e
 
 pub open-bound : (l : Lent) (reg rules : List ℕ) {m p : ℕ} → open-call l reg rules ≡ refused m p → Number m × (p ≤ length (l .sig) + length rules)
-open-bound l reg rules e = refusal (shared-within l (length reg) header (ok []) (open-own rules) passed (open-own-within rules)) e
+open-bound l reg rules e = refusal (shared-within l (fresh-outline reg) (ok []) (open-own rules) passed (open-own-within rules)) e
 
 -- read names no place
 read-within-none : (reg : List ℕ) (k : ℕ) → Within 0 (read-call reg k)

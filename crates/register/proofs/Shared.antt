@@ -8,7 +8,7 @@ use mathlib.Core.Option.{none}
 use lib.Dec.{leb}
 use lib.ListN.{length}
 use borrow.Author.Tests.{leb-true, le-leb}
-use Rattle.logic.specs.Limits.{least-workspace, least-register, most-register, most-operations}
+use Rattle.logic.specs.Limits.{least-workspace, most-register, most-operations}
 use Rattle.logic.specs.Result.{Result, ok, refused}
 use Rattle.logic.specs.Term.{Term, encode}
 use Rattle.logic.specs.Scope.{Signature}
@@ -18,8 +18,8 @@ use Rattle.logic.proofs.Signatures.{empty-signature}
 use Rattle.logic.proofs.Searches.{first-unheld-right}
 use Rattle.logic.proofs.Refused.{inside}
 use Rattle.logic.specs.SignatureList.{Lists, signature, operations, operations-test}
-use Rattle.register.specs.Records.{Record, register-records, Unbroken, used, held}
-use Rattle.register.specs.Calls.{Lent, View, view, shared, on-register}
+use Rattle.register.specs.Records.{Record, header, register-records, Unbroken, held}
+use Rattle.register.specs.Calls.{Lent, Outline, View, view, shared, outline-of, on-register}
 use Rattle.register.specs.Succeeds.{Ready, SignsHeld}
 use Rattle.register.proofs.Words.{unbroken-right}
 use Rattle.register.proofs.Held.{held-right}
@@ -30,9 +30,10 @@ use Rattle.logic.proofs.SignatureList.{well-formed, signature-right, operations
 pub signature-of : {l : Lent} {len : ℕ} {Σ : List Term} → Ready l len Σ → Signature Σ
 signature-of r = well-formed empty-signature (r .accepted)
 
-module _ (l : Lent) (len used : ℕ) where
+module _ (l : Lent) (o : Outline) where
   -- where they passed, what is lent is ready
-  pub made-ready : {Σ : List Term} → least-workspace ≤ l .workspace → (least-register ≤ len) × (len ≤ most-register) → Lists [] (l .sig) Σ → operations-test Σ (l .n) ≡ true → Ready l len Σ
+  pub made-ready : {Σ : List Term} → least-workspace ≤ l .workspace → 
+      (header ≤ o .size) × (o .size ≤ most-register) → Lists [] (l .sig) Σ → operations-test Σ (l .n) ≡ true → Ready l (o .size) Σ
   made-ready {Σ} long size lists e =
       let (n, ops) = both-true (leb 1 (l .n) && leb (l .n) most-operations) (operations Σ (l .n)) e in
       let (one, most) = inside 1 most-operations (l .n) n in
@@ -48,37 +49,37 @@ module _ (l : Lent) (len used : ℕ) where
       }
 
   -- and the call's own tests decide
-  pub shared-ok : {Y Z : Type 0} (rs : List Record) (own : View → Result Y) {y : Y} → shared l len used (ok rs) own ≡ ok y → ((Σ : List Term) → Ready l len Σ → own (view l len used rs Σ) ≡ ok y → Z) → Z
+  pub shared-ok : {Y Z : Type 0} (rs : List Record) (own : View → Result Y) {y : Y} → shared l o (ok rs) own ≡ ok y → ((Σ : List Term) → Ready l (o .size) Σ → own (view l o rs Σ) ≡ ok y → Z) → Z
   shared-ok rs own e f =
-      tested (leb least-workspace (l .workspace)) _ _ _ e λ w e₁. tested (leb least-register len && leb len most-register) _ _ _ e₁ λ range e₂.
-      bound (signature (l .sig)) _ e₂ λ Σ a e₃. tested (operations-test Σ (l .n)) _ _ _ e₃ λ o e₄.
-      f Σ (made-ready (leb-true least-workspace (l .workspace) w) (inside least-register most-register len range) (signature-right (l .sig) Σ .0 a) o) e₄
+      tested (leb least-workspace (l .workspace)) _ _ _ e λ w e₁. tested (leb header (o .size) && leb (o .size) most-register) _ _ _ e₁ λ range e₂.
+      bound (signature (l .sig)) _ e₂ λ Σ a e₃. tested (operations-test Σ (l .n)) _ _ _ e₃ λ p e₄.
+      f Σ (made-ready (leb-true least-workspace (l .workspace) w) (inside header most-register (o .size) range) (signature-right (l .sig) Σ .0 a) p) e₄
 
-  pub shared-is : {Y : Type 0} {y : Result Y} {Σ : List Term} (rs : List Record) (own : View → Result Y) → Ready l len Σ → own (view l len used rs Σ) ≡ y → shared l len used (ok rs) own ≡ y
+  pub shared-is : {Y : Type 0} {y : Result Y} {Σ : List Term} (rs : List Record) (own : View → Result Y) → Ready l (o .size) Σ → own (view l o rs Σ) ≡ y → shared l o (ok rs) own ≡ y
   shared-is {Σ} rs own r e =
       pass _ _ (le-leb least-workspace (l .workspace) (r .workspace))
-      (pass _ _ (true-both (le-leb least-register len (r .not-shorter)) (le-leb len most-register (r .not-longer)))
+      (pass _ _ (true-both (le-leb header (o .size) (r .not-shorter)) (le-leb (o .size) most-register (r .not-longer)))
       (bind-is _ (signature-right (l .sig) Σ .1 (r .accepted))
       (pass _ _ (true-both (true-both (le-leb 1 (l .n) (r .some-operation)) (le-leb (l .n) most-operations (r .not-more))) (ok-operations Σ (l .n) (λ i h. (r .permits i h, r .receipts i h)))) e)))
 
   -- test 3 among them
-  unbroken-ok : {Y Z : Type 0} (records : Result (List Record)) (own : View → Result Y) {y : Y} → shared l len used records own ≡ ok y →
-      ((rs : List Record) → records ≡ ok rs → shared l len used (ok rs) own ≡ ok y → Z) → Z
+  unbroken-ok : {Y Z : Type 0} (records : Result (List Record)) (own : View → Result Y) {y : Y} → shared l o records own ≡ ok y →
+      ((rs : List Record) → records ≡ ok rs → shared l o (ok rs) own ≡ ok y → Z) → Z
   unbroken-ok (ok rs) own e f = f rs refl e
   unbroken-ok (refused m p) own e f =
-      tested (leb least-workspace (l .workspace)) _ _ _ e λ w e₁. tested (leb least-register len && leb len most-register) _ _ _ e₁ λ range e₂. absurd (not-ok e₂)
+      tested (leb least-workspace (l .workspace)) _ _ _ e λ w e₁. tested (leb header (o .size) && leb (o .size) most-register) _ _ _ e₁ λ range e₂. absurd (not-ok e₂)
 
 -- with an accepted signature and an unbroken register, the call's own tests decide
 module _ (l : Lent) (reg : List ℕ) where
   pub register-ok : {Y Z : Type 0} (own : View → Result Y) {y : Y} → on-register l reg own ≡ ok y →
-      ((rs : List Record) (Σ : List Term) → Unbroken reg rs → Ready l (length reg) Σ → Signature Σ → own (view l (length reg) (used reg) rs Σ) ≡ ok y → Z) → Z
+      ((rs : List Record) (Σ : List Term) → Unbroken reg rs → Ready l (length reg) Σ → Signature Σ → own (view l (outline-of reg) rs Σ) ≡ ok y → Z) → Z
   register-ok own e f =
-      unbroken-ok l (length reg) (used reg) (register-records reg) own e λ rs u e₁. shared-ok l (length reg) (used reg) rs own e₁ λ Σ r e₂.
+      unbroken-ok l (outline-of reg) (register-records reg) own e λ rs u e₁. shared-ok l (outline-of reg) rs own e₁ λ Σ r e₂.
       f rs Σ (unbroken-right reg rs .0 u) r (signature-of r) e₂
 
   pub register-is : {Y : Type 0} {y : Result Y} {rs : List Record} {Σ : List Term} (own : View → Result Y) → Unbroken reg rs → Ready l (length reg) Σ →
-      own (view l (length reg) (used reg) rs Σ) ≡ y → on-register l reg own ≡ y
-  register-is {rs} own u r e = ap (λ x. shared l (length reg) (used reg) x own) (unbroken-right reg rs .1 u) ∙ shared-is l (length reg) (used reg) rs own r e
+      own (view l (outline-of reg) rs Σ) ≡ y → on-register l reg own ≡ y
+  register-is {rs} own u r e = ap (λ x. shared l (outline-of reg) x own) (unbroken-right reg rs .1 u) ∙ shared-is l (outline-of reg) rs own r e
 
 -- with another workspace that is not short, what is lent is ready too
 pub renewed : {s : Setting} {w w′ len : ℕ} {Σ : List Term} → least-workspace ≤ w′ → Ready (lent s w) len Σ → Ready (lent s w′) len Σ

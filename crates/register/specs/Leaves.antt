@@ -3,10 +3,10 @@
 use Prim.Native.Nat.{ℕ}
 use mathlib.Core.Path.{_≡_}
 use mathlib.Core.Bool.{true, false}
-use mathlib.Core.List.{List, [], _∷_, _++_}
+use mathlib.Core.List.{List, _++_}
 use lib.ListN.{length, drop}
-use Rattle.register.specs.Records.{Record, Unbroken, used, statement, say-kind}
-use Rattle.register.specs.Calls.{Lent, entry, open-call, after-open, say-call, after-say, request-call, after-request}
+use Rattle.register.specs.Records.{Record, Statement, Ask, Unbroken, used}
+use Rattle.register.specs.Calls.{Lent, say-entry, entry, open-call, after-open, say-call, after-say, request-call, after-request}
 use Rattle.register.specs.Succeeds.{Openable, Sayable, Grantable}
 
 -- the register has the records rs, and "words past the new used count are unchanged"
@@ -19,9 +19,9 @@ pub record Leaving : Type 0 where
   -- open "writes it anew"
   pub opened : {l : Lent} {reg rules : List ℕ} {rs : List Record} → Openable l reg rules rs → Leaves reg rs (after-open (open-call l reg rules) reg)
   -- a say adds its statement behind the records there, "unless held"
-  pub said : {l : Lent} {reg : List ℕ} {a : ℕ} {ws : List ℕ} (h : Sayable l reg a ws true) →
-      Leaves reg (h .rs ++ (statement say-kind a ws ∷ [])) (after-say (say-call l reg a ws) reg a ws)
-  pub said-again : {l : Lent} {reg : List ℕ} {a : ℕ} {ws : List ℕ} → Sayable l reg a ws false → after-say (say-call l reg a ws) reg a ws ≡ reg
+  pub said : {l : Lent} {reg : List ℕ} {st : Statement} (h : Sayable l reg st true) →
+      Leaves reg (h .rs ++ say-entry st) (after-say (say-call l reg st) reg st)
+  pub said-again : {l : Lent} {reg : List ℕ} {st : Statement} → Sayable l reg st false → after-say (say-call l reg st) reg st ≡ reg
   -- a request adds grant and receipt
-  pub granted : {l : Lent} {reg : List ℕ} {i v u : ℕ} {ws : List ℕ} (h : Grantable l reg i v u ws) →
-      Leaves reg (h .proof .rs ++ entry i v u ws) (after-request (request-call l reg i v u ws) reg i v u ws)
+  pub granted : {l : Lent} {reg : List ℕ} {k : Ask} (h : Grantable l reg k) →
+      Leaves reg (h .proof .rs ++ entry k) (after-request (request-call l reg k) reg k)

@@ -9,6 +9,7 @@ use Rattle.logic.specs.Term.{Term, var, sign, Const, Text, Name, Says, Pi, App,
 use Rattle.logic.specs.Worked.{sample, consent, rule, p}
 use Rattle.logic.specs.Order.{within-signs}
 use Rattle.logic.specs.Sentences.{of-consent}
+use Rattle.register.specs.Records.{statement-of, ask-of}
 use Rattle.register.specs.Calls.{Lent, check-call, request-call, say-call, open-call, read-call}
 use Rattle.register.specs.Worked.{listed}
 
@@ -66,38 +67,38 @@ pub record CallOrder : Type 0 where
   pub check-20 : check-call lends empty-register (encode escape) ≡ refused 20 0
   pub check-14 : check-call lends empty-register (encode (sign 3 consent)) ≡ refused 14 0
   -- request: the same, i, v and u before the proof, and 13, 14, 16
-  pub request-1 : request-call (with-lent 12287 no-constant 0) [] 1 16777216 16777216 [] ≡ refused 1 0
-  pub request-2 : request-call (with-lent 12288 no-constant 0) [] 1 16777216 16777216 [] ≡ refused 2 0
-  pub request-3 : request-call (with-lent 12288 no-constant 0) broken-register 1 16777216 16777216 [] ≡ refused 3 0
-  pub request-4 : request-call (with-lent 12288 no-constant 0) empty-register 1 16777216 16777216 [] ≡ refused 4 0
-  pub request-5-i : request-call lends empty-register 1 7 9 [] ≡ refused 5 0
-  pub request-5-v : request-call lends empty-register 0 16777216 9 [] ≡ refused 5 0
-  pub request-5-u : request-call lends empty-register 0 7 16777216 [] ≡ refused 5 0
-  pub request-6 : request-call lends empty-register 0 7 9 [] ≡ refused 6 0
-  pub request-9 : request-call lends empty-register 0 7 9 (encode (sign 3 (var 0))) ≡ refused 9 1
-  pub request-18 : request-call lends empty-register 0 7 9 (encode bad-function) ≡ refused 18 0
-  pub request-19 : request-call lends empty-register 0 7 9 (encode bad-argument) ≡ refused 19 0
-  pub request-20 : request-call lends empty-register 0 7 9 (encode escape) ≡ refused 20 0
-  pub request-13 : request-call lends empty-register 0 7 9 (encode (sign 3 consent)) ≡ refused 13 0
-  pub request-14 : request-call lends empty-register 0 7 9 (encode p) ≡ refused 14 1
+  pub request-1 : request-call (with-lent 12287 no-constant 0) [] (ask-of 1 16777216 16777216 []) ≡ refused 1 0
+  pub request-2 : request-call (with-lent 12288 no-constant 0) [] (ask-of 1 16777216 16777216 []) ≡ refused 2 0
+  pub request-3 : request-call (with-lent 12288 no-constant 0) broken-register (ask-of 1 16777216 16777216 []) ≡ refused 3 0
+  pub request-4 : request-call (with-lent 12288 no-constant 0) empty-register (ask-of 1 16777216 16777216 []) ≡ refused 4 0
+  pub request-5-i : request-call lends empty-register (ask-of 1 7 9 []) ≡ refused 5 0
+  pub request-5-v : request-call lends empty-register (ask-of 0 16777216 9 []) ≡ refused 5 0
+  pub request-5-u : request-call lends empty-register (ask-of 0 7 16777216 []) ≡ refused 5 0
+  pub request-6 : request-call lends empty-register (ask-of 0 7 9 []) ≡ refused 6 0
+  pub request-9 : request-call lends empty-register (ask-of 0 7 9 (encode (sign 3 (var 0)))) ≡ refused 9 1
+  pub request-18 : request-call lends empty-register (ask-of 0 7 9 (encode bad-function)) ≡ refused 18 0
+  pub request-19 : request-call lends empty-register (ask-of 0 7 9 (encode bad-argument)) ≡ refused 19 0
+  pub request-20 : request-call lends empty-register (ask-of 0 7 9 (encode escape)) ≡ refused 20 0
+  pub request-13 : request-call lends empty-register (ask-of 0 7 9 (encode (sign 3 consent))) ≡ refused 13 0
+  pub request-14 : request-call lends empty-register (ask-of 0 7 9 (encode p)) ≡ refused 14 1
   -- say: 5 for n before 15, 15 before the proposition, whose limits are one less, 14 before 16
-  pub say-1 : say-call (with-lent 12287 no-constant 0) [] 0 [] ≡ refused 1 0
-  pub say-2 : say-call (with-lent 12288 no-constant 0) [] 0 [] ≡ refused 2 0
-  pub say-3 : say-call (with-lent 12288 no-constant 0) broken-register 0 [] ≡ refused 3 0
-  pub say-4 : say-call (with-lent 12288 no-constant 0) empty-register 0 [] ≡ refused 4 0
-  pub say-5 : say-call (with-lent 12288 (listed sample) 0) empty-register 0 [] ≡ refused 5 0
-  pub say-5-principal : say-call lends empty-register 16777216 [] ≡ refused 5 0
-  pub say-15 : say-call lends empty-register 0 [] ≡ refused 15 0
-  pub say-6 : say-call lends empty-register 4 [] ≡ refused 6 0
-  pub say-6-long : say-call lends empty-register 4 (replicate 2048 0) ≡ refused 6 0
-  pub say-7 : say-call lends empty-register 4 (replicate 2047 0) ≡ refused 7 0
-  pub say-8 : say-call lends empty-register 4 (encode (within-signs 31 (var 0))) ≡ refused 8 31
-  pub say-9 : say-call lends empty-register 4 (encode (sign 3 (var 0))) ≡ refused 9 1
-  pub say-18 : say-call lends empty-register 4 (encode bad-function) ≡ refused 18 0
-  pub say-19 : say-call lends empty-register 4 (encode bad-argument) ≡ refused 19 0
-  pub say-20 : say-call lends empty-register 4 (encode escape) ≡ refused 20 0
-  pub say-14 : say-call lends empty-register 4 (encode embeds) ≡ refused 14 14
-  pub say-16 : say-call lends empty-register 3 (encode consent) ≡ refused 16 0
+  pub say-1 : say-call (with-lent 12287 no-constant 0) [] (statement-of 0 []) ≡ refused 1 0
+  pub say-2 : say-call (with-lent 12288 no-constant 0) [] (statement-of 0 []) ≡ refused 2 0
+  pub say-3 : say-call (with-lent 12288 no-constant 0) broken-register (statement-of 0 []) ≡ refused 3 0
+  pub say-4 : say-call (with-lent 12288 no-constant 0) empty-register (statement-of 0 []) ≡ refused 4 0
+  pub say-5 : say-call (with-lent 12288 (listed sample) 0) empty-register (statement-of 0 []) ≡ refused 5 0
+  pub say-5-principal : say-call lends empty-register (statement-of 16777216 []) ≡ refused 5 0
+  pub say-15 : say-call lends empty-register (statement-of 0 []) ≡ refused 15 0
+  pub say-6 : say-call lends empty-register (statement-of 4 []) ≡ refused 6 0
+  pub say-6-long : say-call lends empty-register (statement-of 4 (replicate 2048 0)) ≡ refused 6 0
+  pub say-7 : say-call lends empty-register (statement-of 4 (replicate 2047 0)) ≡ refused 7 0
+  pub say-8 : say-call lends empty-register (statement-of 4 (encode (within-signs 31 (var 0)))) ≡ refused 8 31
+  pub say-9 : say-call lends empty-register (statement-of 4 (encode (sign 3 (var 0)))) ≡ refused 9 1
+  pub say-18 : say-call lends empty-register (statement-of 4 (encode bad-function)) ≡ refused 18 0
+  pub say-19 : say-call lends empty-register (statement-of 4 (encode bad-argument)) ≡ refused 19 0
+  pub say-20 : say-call lends empty-register (statement-of 4 (encode escape)) ≡ refused 20 0
+  pub say-14 : say-call lends empty-register (statement-of 4 (encode embeds)) ≡ refused 14 14
+  pub say-16 : say-call lends empty-register (statement-of 3 (encode consent)) ≡ refused 16 0
   -- open: no 3; then rules in turn, each at its principal word; 16 last
   pub open-1 : open-call (with-lent 12287 no-constant 0) [] (16777216 ∷ []) ≡ refused 1 0
   pub open-2 : open-call (with-lent 12288 no-constant 0) [] (16777216 ∷ []) ≡ refused 2 0

@@ -8,7 +8,7 @@ use Rattle.logic.specs.Result.{ok, refused}
 use Rattle.logic.specs.Term.{Term, size, encode}
 use Rattle.logic.specs.Worked.{sample, consent, rule, p}
 use Rattle.logic.specs.SignatureList.{signature}
-use Rattle.register.specs.Records.{used}
+use Rattle.register.specs.Records.{statement-of, ask-of, used}
 use Rattle.register.specs.Calls.{open-call, after-open}
 use Rattle.register.specs.History.{Setting, lent, Call, say, request, said, requested, run, answers}
 
@@ -25,10 +25,10 @@ abbrev pub opened : ℕ → List ℕ
 opened len = after-open (open-call (lent setting 12288) (replicate len 0) (0 ∷ size rule ∷ encode rule)) (replicate len 0)
 
 abbrev pub say-consent : Call
-say-consent = say 12288 3 (encode consent)
+say-consent = say 12288 (statement-of 3 (encode consent))
 
 abbrev pub request-extract : Call
-request-extract = request 12288 0 7 9 (encode p)
+request-extract = request 12288 (ask-of 0 7 9 (encode p))
 
 -- "Rule r, a3 says App C2 s7, request 0, 7, 9 with p: 24 words used, then 64. 64 words suffice; 63 give 16."
 pub record WorkedRegister : Type 0 where

@@ -65,13 +65,11 @@ from-is : (c : tie.Joined3) →
 from-is c = ⊎-elim (λ w. picked-true _ _ _ (w .0 .taken) (w .1)) (λ w. picked-false _ _ _ (w .0 .left) (w .1)) (c .if3 .came)
 
 -- the part that is looked up is the type's words
-part :
-    (c : tie.Joined3) (Γ : List Term)
-    (b : Binders (at-start .args .proof .now) (scope-words (at-start .args .floor) (at-start .args .used) (at-start .args .ws .now)) Γ) →
+part : (c : tie.Joined3) (Γ : List Term) →
     let at-else1 = before-else2 (before-joined3 c) in
     let at-binder = before-else1 at-else1 in
-    let at-start = before-binder at-binder in
-    let a = at-start .args in
+    let a = before-binder at-binder .args in
+    (b : Binders (a .proof .now) (scope-words (a .floor) (a .used) (a .ws .now)) Γ) →
     Is
     (partOf (a .proof .now) (a .ws .now) (ltb entry-head (getD (a .ws .now) (length (a .ws .now) - at-binder .binder .result) 0)) (c .if3 .from)
     (c .if3 .from + getD (a .ws .now) (length (a .ws .now) - at-binder .binder .result + 2) 0)) (entry-for at-else1 Γ b .type)
