@@ -40,8 +40,9 @@ typed c Σ a C =
     (at-typed2 .typed2 .given .1)
 
 -- the test of its type
-proposed : (c : tie.After-front-is) (Σ : List Term) (a : ℕ) (C : Constants-of (at-start .args .sig .now) (at-start .args .table .now) Σ) →
+proposed : (c : tie.After-front-is) →
     let at-start = before-shared-slice-known (before-check-term (before-match-keys2 (c .before .before .before .before))) in
+    (Σ : List Term) (a : ℕ) (C : Constants-of (at-start .args .sig .now) (at-start .args .table .now) Σ) →
     c .front-is .result ≡ same (typed c Σ a C .A) P
 proposed c Σ a C = let S = typed c Σ a C in c .front-is .ensures (S .A) propA (S .type) refl tt
 

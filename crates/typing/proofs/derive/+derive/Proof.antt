@@ -140,9 +140,9 @@ sign-at t c =
     sign-case (at-kind .kind .result) (p .term) (kind-known t at-kind (p .term) (p .ready .here)) (c .if3 .taken) (p .ready)
 
 -- a node, of any term that stands there
-as-node : (t : ℕ) (c : lts.Else3 (calls t) (given t) derive.Post) (Σ Γ : List Term) (u : Term) (F : Term →
+as-node : (t : ℕ) (c : lts.Else3 (calls t) (given t) derive.Post) (Σ Γ : List Term) (u : Term) (F : Term → Type 0) →
     let at-start = before-shared-slice-known t (before-kind t (before-else3 t c)) in
-    Type 0) → Here t at-start Σ Γ u → ((o : Op) (a b : Term) → Here t at-start Σ Γ (node o a b) → F (node o a b)) → F u
+    Here t at-start Σ Γ u → ((o : Op) (a b : Term) → Here t at-start Σ Γ (node o a b) → F (node o a b)) → F u
 as-node t c Σ Γ u F R f =
     let at-kind = before-else3 t c in
     let at-start = before-shared-slice-known t (before-kind t at-kind) in
@@ -213,11 +213,12 @@ module _ (t : ℕ) {Σ Γ : List Term} {o : Op} {a b : Term} where
   first-typed c R = between R _ (c .before .before .if4 .first) _ _ (first-derives t (c .before .before)) (c .first .given .1)
 
   -- the test on it passed
-  test-passed : (c : lts.After-entered (calls t) (given t) derive.Post) (R : Here t at-start Σ Γ (node o a b)) →
+  test-passed : (c : lts.After-entered (calls t) (given t) derive.Post) →
       let at-enter = before-entered t c in
       let at-first = before-enter t at-enter in
       let at-joined4 = before-first t at-first in
       let at-start = before-shared-slice-known t (before-kind t (before-else3 t (before-joined4 t at-joined4))) in
+      (R : Here t at-start Σ Γ (node o a b)) →
       Inside (at-joined4 .if4 .ws) (at-enter .enter .last .1 .0) (at-start .args .used) (at-start .args .at) (at-first .first .given .0 .0)
       (c .entered .given .0 .0) (c .entered .given .0 .1 .0) o a (first-typed at-first R .type)
   test-passed c R =
@@ -234,10 +235,11 @@ module _ (t : ℕ) {Σ Γ : List Term} {o : Op} {a b : Term} where
       let at-start = before-shared-slice-known t (before-kind t (before-else3 t (before-joined4 t (before-first t at-first)))) in
       let p = at-start .pre .1 in level R _ _ _ _ _ _ (first-typed at-first R) (test-passed c R) (p .below) (mid-length t c) (p .room)
 
-  second-ready-here : (c : lts.After-entered (calls t) (given t) derive.Post) (R : Here t at-start Σ Γ (node o a b)) →
+  second-ready-here : (c : lts.After-entered (calls t) (given t) derive.Post) →
       let at-enter = before-entered t c in
       let at-first = before-enter t at-enter in
       let at-start = before-shared-slice-known t (before-kind t (before-else3 t (before-joined4 t (before-first t at-first)))) in
+      (R : Here t at-start Σ Γ (node o a b)) →
       Ready (at-start .args .sig .now) (at-start .args .table .now) (at-start .args .proof .now)
       (rest-of (c .entered .given .0 .0) (at-enter .enter .last .1 .0)) (at-start .args .floor) (c .entered .given .0 .1 .0)
       (at-first .first .given .0 .1 .0) (at-start .args .left - 1) Σ (within o a (first-typed at-first R .type) Γ) b
