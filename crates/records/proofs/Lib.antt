@@ -1,5 +1,7 @@
 -- Laws of records in words, one for each step of the code.
 pub mod Walks
-pub mod Stands
+pub mod Items
+pub mod Sought
+pub mod ReadAnswers
 pub mod Scans
 pub mod Adds

@@ -1,2 +1,4 @@
--- What the code on records answers and writes, by the definitions of `register`.
+-- What the code on records is asked, answers and writes, by the definitions of `register`.
+pub mod Items
+pub mod Sources
 pub mod Answers

@@ -7,7 +7,7 @@ use mathlib.Core.Bool.{Bool, true}
 use mathlib.Core.List.{List, [], _∷_, _++_}
 use mathlib.Core.Option.{some}
 use lib.ListN.{length, take, drop, getD, getElem?, length-append, length-drop}
-use lib.Seq.{drop-drop, take-nil, drop-nil, drop-at, drop-append-add, getD-drop, getD-take, length-take-le}
+use lib.Seq.{drop-drop, drop-nil, drop-at, drop-append-add, getD-drop, getD-take, length-take-le}
 use lib.Dec.{ltb}
 use borrow.Author.Tests.{lt-ltb}
 use Rattle.logic.specs.Result.{pick}
@@ -15,16 +15,9 @@ use Rattle.logic.specs.Term.{Term, encode, size}
 use Rattle.logic.proofs.Basics.{clash}
 use Rattle.logic.proofs.Words.{encode-size}
 use Rattle.words.specs.Place.{At}
+use Rattle.words.proofs.Lists.{drop-take}
 use Rattle.rules.specs.Scope.{tail, scope-words, entry-head, Binders, no-binder, in-proof, in-workspace}
 use Rattle.rules.specs.Variable.{Found}
-
--- ---- a part of a list
-
-pub drop-take : (t k : ℕ) (l : List ℕ) → drop t (take k l) ≡ take (k - t) (drop t l)
-drop-take zero k l = let e : k ≡ k - 0 = omega arith in ap (λ (i : ℕ). take i l) e
-drop-take (suc t) zero l = let e : 0 ≡ 0 - suc t = omega arith in ap (λ (i : ℕ). take i (drop (suc t) l)) e
-drop-take (suc t) (suc k) [] = sym (take-nil (suc k - suc t))
-drop-take (suc t) (suc k) (x ∷ l) = let e : k - t ≡ suc k - suc t = omega arith in drop-take t k l ∙ ap (λ (i : ℕ). take i (drop t l)) e
 
 -- ---- the words of a scope
 

@@ -32,7 +32,8 @@ use Rattle.rules.specs.Variable.{Found, Raises}
 use Rattle.rules.specs.declared.derivation.Derivation.{Derivation}
 use Rattle.rules.specs.declared.derivation.Derivation.the-variants.{Typed, Refused}
 use Rattle.rules.proofs.Fronts.{measured-fits, measured-long, refuses, writes}
-use Rattle.rules.proofs.Scopes.{drop-take, scope-length, entry-at, no-binders}
+use Rattle.words.proofs.Lists.{drop-take}
+use Rattle.rules.proofs.Scopes.{scope-length, entry-at, no-binders}
 
 first-of-rest : (Γ : List Term) (n : ℕ) → getElem? (drop n Γ) 0 ≡ getElem? Γ n
 first-of-rest [] zero = refl
