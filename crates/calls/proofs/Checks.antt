@@ -29,8 +29,8 @@ use Rattle.typing.specs.Check.{Constants-of, typed-term, Judged}
 use Rattle.records.specs.Answers.{unheld-answer}
 use Rattle.records.specs.declared.search.Unheld.{Unheld}
 use Rattle.records.specs.declared.search.Unheld.the-variants.{Nowhere, At}
-use Rattle.register.specs.Records.{Record, used, register-records, held}
-use Rattle.register.specs.Calls.{Lent, View, view, length-test, shared, on-register, signs-held, check-own, check-call}
+use Rattle.register.specs.Records.{Record, register-records, held}
+use Rattle.register.specs.Calls.{Lent, Outline, View, view, length-test, shared, outline-of, on-register, signs-held, check-own, check-call}
 use Rattle.calls.specs.Answers.{Handed}
 use Rattle.calls.specs.Shared.{ready-answer, prepared, constants-found, Lent-so, Prepared-as}
 use Rattle.calls.proofs.SharedTests.{bind-bind}
@@ -43,13 +43,14 @@ then-bind : {X Y Z : Type 0} (a : Result X) (r : Result Y) (g : Y → Result Z) 
 then-bind (ok x) r g = refl
 then-bind (refused m p) r g = refl
 
-pub own-tests : {Y : Type 0} (l : Lent) (len words : ℕ) (records : Result (List Record)) (own : View → Result Y) → shared l len words records own ≡ (shared l len words records ok >>= own)
-own-tests l len words records own =
+pub own-tests : {Y : Type 0} (l : Lent) (o : Outline) (records : Result (List Record)) (own : View → Result Y) →
+    shared l o records own ≡ (shared l o records ok >>= own)
+own-tests l o records own =
     sym (then-bind (require (leb least-workspace (l .workspace)) workspace-short 0) _ own ∙ ap (λ x. require (leb least-workspace (l .workspace)) workspace-short 0 >> x)
-    (then-bind (length-test len) _ own ∙ ap (λ x. length-test len >> x)
+    (then-bind (length-test (o .size)) _ own ∙ ap (λ x. length-test (o .size) >> x)
     (bind-bind records _ own ∙ ap (λ k. records >>= k) (fun-ext λ rs.
     bind-bind (signature (l .sig)) _ own ∙ ap (λ k. signature (l .sig) >>= k) (fun-ext λ Σ.
-    then-bind (require (operations-test Σ (l .n)) bad-number 0) (ok (view l len words rs Σ)) own)))))
+    then-bind (require (operations-test Σ (l .n)) bad-number 0) (ok (view l o rs Σ)) own)))))
 
 -- what an answer that refuses tells
 pub not-ready : (o : Result View) (r : Ready) → ready-answer r ≡ constants-found o → (m p : ℕ) → r ≡ Fault m p → o ≡ refused m p
@@ -58,7 +59,7 @@ not-ready o r e m p q = not-mapped (λ v. length (v .Σ)) o (sym e ∙ ap ready-
 module _ {Y : Type 0} (l : Lent) (reg table : List ℕ) (r : Ready) (own : View → Result Y) (P : Prepared-as (prepared l reg) l reg table r) where
   -- the shared tests refused
   pub not-prepared : (m p : ℕ) → r ≡ Fault m p → on-register l reg own ≡ refused m p
-  not-prepared m p q = own-tests l (length reg) (used reg) (register-records reg) own ∙ stop own (not-ready (prepared l reg) r (P .answer) m p q)
+  not-prepared m p q = own-tests l (outline-of reg) (register-records reg) own ∙ stop own (not-ready (prepared l reg) r (P .answer) m p q)
 
   -- or found a register that is not broken and a signature that is accepted
   pub record Passed-so (count : ℕ) : Type 0 where
@@ -67,8 +68,8 @@ module _ {Y : Type 0} (l : Lent) (reg table : List ℕ) (r : Ready) (own : View 
     pub Σ : List Term
     pub counted : count ≡ length Σ
     pub constants : Constants-of (l .sig) (take count table) Σ
-    pub lent-so : Lent-so l (length reg) (used reg) rs table (view l (length reg) (used reg) rs Σ)
-    pub is : on-register l reg own ≡ own (view l (length reg) (used reg) rs Σ)
+    pub lent-so : Lent-so l (outline-of reg) rs table (view l (outline-of reg) rs Σ)
+    pub is : on-register l reg own ≡ own (view l (outline-of reg) rs Σ)
 
   pub passed-so : (count : ℕ) → r ≡ Constants count → Passed-so count
   passed-so count q = bound (prepared l reg) _ (sym (P .answer) ∙ ap ready-answer q) λ v e n.
@@ -81,8 +82,8 @@ module _ {Y : Type 0} (l : Lent) (reg table : List ℕ) (r : Ready) (own : View 
         Σ = v .Σ;
         counted = c;
         constants = subst (λ (i : ℕ). Constants-of (l .sig) (take i table) (v .Σ)) (sym c) (S .constants);
-        lent-so = subst (Lent-so l (length reg) (used reg) (R .rs) table) (S .is) S;
-        is = own-tests l (length reg) (used reg) (register-records reg) own ∙ bind-is own e (ap own (S .is));
+        lent-so = subst (Lent-so l (outline-of reg) (R .rs) table) (S .is) S;
+        is = own-tests l (outline-of reg) (register-records reg) own ∙ bind-is own e (ap own (S .is));
       }
 
 -- ---- a term's type

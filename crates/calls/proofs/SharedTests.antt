@@ -7,7 +7,7 @@ use mathlib.Core.List.{List, []}
 use lib.Dec.{leb}
 use lib.ListN.{length, take}
 use borrow.Author.Tests.{le-leb, lt-leb, leb-true}
-use Rattle.logic.specs.Limits.{least-workspace, least-register, most-register, most-operations}
+use Rattle.logic.specs.Limits.{least-workspace, most-register, most-operations}
 use Rattle.logic.specs.Refusals.{workspace-short, register-length, register-broken, bad-signature, bad-number}
 use Rattle.logic.specs.Result.{Result, ok, refused, _>>=_, _>>_, require, number-of}
 use Rattle.logic.specs.Term.{Term}
@@ -23,9 +23,9 @@ use Rattle.signature.specs.declared.list.Listed.the-variants.{Bad}
 use Rattle.records.specs.Answers.{record-count, contents-answer}
 use Rattle.records.specs.declared.walk.Contents.{Contents}
 use Rattle.records.specs.declared.walk.Contents.the-variants.{Broken, Whole}
-use Rattle.records.proofs.Stands.{contents-broken, contents-whole}
-use Rattle.register.specs.Records.{Record, header, used, register-records}
-use Rattle.register.specs.Calls.{Lent, View, view, length-test, shared}
+use Rattle.records.proofs.ReadAnswers.{contents-broken, contents-whole}
+use Rattle.register.specs.Records.{Record, header, register-records}
+use Rattle.register.specs.Calls.{Lent, Outline, View, view, length-test, shared, outline-of, fresh-outline}
 use Rattle.calls.specs.Shared.{lengths-test, signed, ready-answer, Signed-as, constants-found, prepared, opened, Lent-so, Prepared-as, Opened-as}
 use Rattle.calls.specs.declared.shared.Ready.{Ready}
 use Rattle.calls.specs.declared.shared.Ready.the-variants.{Constants, Fault}
@@ -40,12 +40,12 @@ module _ (workspace register : ℕ) where
     past-workspace : lengths-test workspace register ≡ length-test register
     past-workspace = ap (λ (b : Bool). require b workspace-short 0 >> length-test register) (le-leb least-workspace workspace enough)
 
-    pub short-register : register < least-register → register-length ≡ number-of (lengths-test workspace register)
-    short-register h = sym (ap number-of past-workspace ∙ ap (λ (b : Bool). number-of (require (b && leb register most-register) register-length 0)) (lt-leb least-register register h))
+    pub short-register : register < header → register-length ≡ number-of (lengths-test workspace register)
+    short-register h = sym (ap number-of past-workspace ∙ ap (λ (b : Bool). number-of (require (b && leb register most-register) register-length 0)) (lt-leb header register h))
 
-    module _ (not-shorter : least-register ≤ register) where
+    module _ (not-shorter : header ≤ register) where
       past-least : lengths-test workspace register ≡ require (leb register most-register) register-length 0
-      past-least = past-workspace ∙ ap (λ (b : Bool). require (b && leb register most-register) register-length 0) (le-leb least-register register not-shorter)
+      past-least = past-workspace ∙ ap (λ (b : Bool). require (b && leb register most-register) register-length 0) (le-leb header register not-shorter)
 
       pub long-register : most-register < register → register-length ≡ number-of (lengths-test workspace register)
       long-register h = sym (ap number-of past-least ∙ ap (λ (b : Bool). number-of (require b register-length 0)) (lt-leb register most-register h))
@@ -56,27 +56,27 @@ module _ (workspace register : ℕ) where
 -- the limits are met where neither refuses
 pub record Lengths (workspace register : ℕ) : Type 0 where
   pub workspace-fits : least-workspace ≤ workspace
-  pub not-shorter : least-register ≤ register
+  pub not-shorter : header ≤ register
   pub not-longer : register ≤ most-register
   pub passed : lengths-test workspace register ≡ ok tt
 
 pub lengths-fine : (workspace register : ℕ) → 0 ≡ number-of (lengths-test workspace register) → Lengths workspace register
-lengths-fine w r e = go (leb least-workspace w) (leb least-register r) (leb r most-register) refl refl refl e
+lengths-fine w r e = go (leb least-workspace w) (leb header r) (leb r most-register) refl refl refl e
   where
-    go : (a b c : Bool) → leb least-workspace w ≡ a → leb least-register r ≡ b → leb r most-register ≡ c → 0 ≡ number-of (require a workspace-short 0 >> require (b && c) register-length 0) → Lengths w r
+    go : (a b c : Bool) → leb least-workspace w ≡ a → leb header r ≡ b → leb r most-register ≡ c → 0 ≡ number-of (require a workspace-short 0 >> require (b && c) register-length 0) → Lengths w r
     go false b c p q s e = absurd (omega arith)
     go true false c p q s e = absurd (omega arith)
     go true true false p q s e = absurd (omega arith)
     go true true true p q s e = record {
       workspace-fits = leb-true least-workspace w p;
-      not-shorter = leb-true least-register r q;
+      not-shorter = leb-true header r q;
       not-longer = leb-true r most-register s;
       passed = ap (λ (x : Bool). require x workspace-short 0 >> length-test r) p ∙ ap (λ (x : Bool). require x register-length 0) (true-both q s);
     }
 
 -- what they refuse, they refuse at place 0
 pub lengths-refused : (workspace register number : ℕ) → number ≡ number-of (lengths-test workspace register) → (number ≡ 0 → ⊥) → lengths-test workspace register ≡ refused number 0
-lengths-refused w r number e n = go (leb least-workspace w) (leb least-register r && leb r most-register) e
+lengths-refused w r number e n = go (leb least-workspace w) (leb header r && leb r most-register) e
   where
     go : (a b : Bool) → number ≡ number-of (require a workspace-short 0 >> require b register-length 0) → (require a workspace-short 0 >> require b register-length 0) ≡ refused number 0
     go false b e = ap (λ (m : ℕ). refused m 0) (sym e)
@@ -117,33 +117,33 @@ then-refused (ok x) (ok y) c e = absurd (clash (cc))
 then-refused (ok x) (refused m p) c e = cc
 then-refused (refused m p) b c e = cc
 
-module _ {Y : Type 0} (l : Lent) (len words : ℕ) (own : View → Result Y) where
+module _ {Y : Type 0} (l : Lent) (o : Outline) (own : View → Result Y) where
   -- tests 4 and 5, and then the call's own
   rest : List Record → Result Y
-  rest rs = signed (l .sig) (l .n) >>= λ Σ. own (view l len words rs Σ)
+  rest rs = signed (l .sig) (l .n) >>= λ Σ. own (view l o rs Σ)
 
-  signed-then : (rs : List Record) → (signature (l .sig) >>= λ Σ. require (operations-test Σ (l .n)) bad-number 0 >> own (view l len words rs Σ)) ≡ rest rs
+  signed-then : (rs : List Record) → (signature (l .sig) >>= λ Σ. require (operations-test Σ (l .n)) bad-number 0 >> own (view l o rs Σ)) ≡ rest rs
   unfolding rest
   signed-then rs = go (signature (l .sig))
     where
-      tests : (b : Bool) (Σ : List Term) → (require b bad-number 0 >> own (view l len words rs Σ)) ≡ ((require b bad-number 0 >> ok Σ) >>= λ Σ. own (view l len words rs Σ))
+      tests : (b : Bool) (Σ : List Term) → (require b bad-number 0 >> own (view l o rs Σ)) ≡ ((require b bad-number 0 >> ok Σ) >>= λ Σ. own (view l o rs Σ))
       tests true Σ = refl
       tests false Σ = refl
 
-      go : (x : Result (List Term)) → (x >>= λ Σ. require (operations-test Σ (l .n)) bad-number 0 >> own (view l len words rs Σ)) ≡ ((x >>= λ Σ. require (operations-test Σ (l .n)) bad-number 0 >> ok Σ) >>= λ Σ. own (view l len words rs Σ))
+      go : (x : Result (List Term)) → (x >>= λ Σ. require (operations-test Σ (l .n)) bad-number 0 >> own (view l o rs Σ)) ≡ ((x >>= λ Σ. require (operations-test Σ (l .n)) bad-number 0 >> ok Σ) >>= λ Σ. own (view l o rs Σ))
       go (ok Σ) = tests (operations-test Σ (l .n)) Σ
       go (refused m p) = refl
 
-  pub shared-refused : (records : Result (List Record)) {m p : ℕ} → lengths-test (l .workspace) len ≡ refused m p → shared l len words records own ≡ refused m p
-  shared-refused records e = then-refused (require (leb least-workspace (l .workspace)) workspace-short 0) (length-test len) _ e
+  pub shared-refused : (records : Result (List Record)) {m p : ℕ} → lengths-test (l .workspace) (o .size) ≡ refused m p → shared l o records own ≡ refused m p
+  shared-refused records e = then-refused (require (leb least-workspace (l .workspace)) workspace-short 0) (length-test (o .size)) _ e
 
-  pub shared-broken : (records : Result (List Record)) {m p : ℕ} → lengths-test (l .workspace) len ≡ ok tt → records ≡ refused m p → shared l len words records own ≡ refused m p
-  shared-broken records e r = then-passed (require (leb least-workspace (l .workspace)) workspace-short 0) (length-test len) _ e ∙ ap (λ x. x >>= λ rs. signature (l .sig) >>= λ Σ. require (operations-test Σ (l .n)) bad-number 0 >> own (view l len words rs Σ)) r
+  pub shared-broken : (records : Result (List Record)) {m p : ℕ} → lengths-test (l .workspace) (o .size) ≡ ok tt → records ≡ refused m p → shared l o records own ≡ refused m p
+  shared-broken records e r = then-passed (require (leb least-workspace (l .workspace)) workspace-short 0) (length-test (o .size)) _ e ∙ ap (λ x. x >>= λ rs. signature (l .sig) >>= λ Σ. require (operations-test Σ (l .n)) bad-number 0 >> own (view l o rs Σ)) r
 
-  pub shared-signed : (records : Result (List Record)) (rs : List Record) → lengths-test (l .workspace) len ≡ ok tt → records ≡ ok rs → shared l len words records own ≡ (signed (l .sig) (l .n) >>= λ Σ. own (view l len words rs Σ))
+  pub shared-signed : (records : Result (List Record)) (rs : List Record) → lengths-test (l .workspace) (o .size) ≡ ok tt → records ≡ ok rs → shared l o records own ≡ (signed (l .sig) (l .n) >>= λ Σ. own (view l o rs Σ))
   unfolding rest
-  shared-signed records rs e r = then-passed (require (leb least-workspace (l .workspace)) workspace-short 0) (length-test len) _ e
-      ∙ ap (λ x. x >>= λ rs. signature (l .sig) >>= λ Σ. require (operations-test Σ (l .n)) bad-number 0 >> own (view l len words rs Σ)) r ∙ signed-then rs
+  shared-signed records rs e r = then-passed (require (leb least-workspace (l .workspace)) workspace-short 0) (length-test (o .size)) _ e
+      ∙ ap (λ x. x >>= λ rs. signature (l .sig) >>= λ Σ. require (operations-test Σ (l .n)) bad-number 0 >> own (view l o rs Σ)) r ∙ signed-then rs
 
 -- an accepted number of operations is not too large
 few-operations : (sig : List ℕ) (n : ℕ) (Σ : List Term) → signed sig n ≡ ok Σ → n ≤ most-operations
@@ -163,13 +163,13 @@ bind-bind (ok x) f g = refl
 bind-bind (refused m p) f g = refl
 
 -- the shared tests found what the table and the answer say
-module _ (l : Lent) (len words : ℕ) (rs : List Record) (table : List ℕ) (r : Ready) (L : Lengths (l .workspace) len) (S : Signed-as (signed (l .sig) (l .n)) (l .sig) table r)
-    (o : Result View) (h : o ≡ (signed (l .sig) (l .n) >>= λ Σ. ok (view l len words rs Σ))) where
+module _ (l : Lent) (t : Outline) (rs : List Record) (table : List ℕ) (r : Ready) (L : Lengths (l .workspace) (t .size)) (S : Signed-as (signed (l .sig) (l .n)) (l .sig) table r)
+    (o : Result View) (h : o ≡ (signed (l .sig) (l .n) >>= λ Σ. ok (view l t rs Σ))) where
   lent-answer : ready-answer r ≡ constants-found o
   lent-answer = S .answer ∙ sym (ap constants-found h ∙ bind-bind (signed (l .sig) (l .n)) _ _)
 
-  lent-so : (v : View) → o ≡ ok v → Lent-so l len words rs table v
-  lent-so v e = bound (signed (l .sig) (l .n)) _ (sym h ∙ e) λ Σ s w. subst (Lent-so l len words rs table) (ok-inj w) (record {
+  lent-so : (v : View) → o ≡ ok v → Lent-so l t rs table v
+  lent-so v e = bound (signed (l .sig) (l .n)) _ (sym h ∙ e) λ Σ s w. subst (Lent-so l t rs table) (ok-inj w) (record {
     is = refl;
     constants = S .constants Σ s;
     workspace = L .workspace-fits;
@@ -181,30 +181,30 @@ module _ (l : Lent) (len words : ℕ) (rs : List Record) (table : List ℕ) (r :
 module _ (l : Lent) (len : ℕ) (table : List ℕ) where
   pub opened-refused : (number : ℕ) → number ≡ number-of (lengths-test (l .workspace) len) → (number ≡ 0 → ⊥) → Opened-as (opened l len) l len table (Fault number 0)
   opened-refused number e n =
-      let h = shared-refused l len header ok (ok []) (lengths-refused (l .workspace) len number e n) in
+      let h = shared-refused l (fresh-outline len) ok (ok []) (lengths-refused (l .workspace) len number e n) in
       record { answer = sym (stop _ h); passed = λ v f. absurd (not-ok (sym h ∙ f)) }
 
   pub opened-as : (r : Ready) → Lengths (l .workspace) len → Signed-as (signed (l .sig) (l .n)) (l .sig) table r → Opened-as (opened l len) l len table r
   opened-as r L S =
-      let h = shared-signed l len header ok (ok []) [] (L .passed) refl in
-      record { answer = lent-answer l len header [] table r L S (opened l len) h; passed = lent-so l len header [] table r L S (opened l len) h }
+      let h = shared-signed l (fresh-outline len) ok (ok []) [] (L .passed) refl in
+      record { answer = lent-answer l (fresh-outline len) [] table r L S (opened l len) h; passed = lent-so l (fresh-outline len) [] table r L S (opened l len) h }
 
 module _ (l : Lent) (reg table : List ℕ) where
   unprepared : (m p : ℕ) → prepared l reg ≡ refused m p → Prepared-as (prepared l reg) l reg table (Fault m p)
   unprepared m p h = record { answer = sym (stop _ h); passed = λ v f. absurd (not-ok (sym h ∙ f)) }
 
   pub prepared-refused : (number : ℕ) → number ≡ number-of (lengths-test (l .workspace) (length reg)) → (number ≡ 0 → ⊥) → Prepared-as (prepared l reg) l reg table (Fault number 0)
-  prepared-refused number e n = unprepared number 0 (shared-refused l (length reg) (used reg) ok (register-records reg) (lengths-refused (l .workspace) (length reg) number e n))
+  prepared-refused number e n = unprepared number 0 (shared-refused l (outline-of reg) ok (register-records reg) (lengths-refused (l .workspace) (length reg) number e n))
 
   module _ (c : Contents) (L : Lengths (l .workspace) (length reg)) (e : contents-answer c ≡ record-count reg) where
     pub prepared-broken : c ≡ Broken → Prepared-as (prepared l reg) l reg table (Fault register-broken 0)
-    prepared-broken q = unprepared register-broken 0 (shared-broken l (length reg) (used reg) ok (register-records reg) (L .passed) (contents-broken reg c e q))
+    prepared-broken q = unprepared register-broken 0 (shared-broken l (outline-of reg) ok (register-records reg) (L .passed) (contents-broken reg c e q))
 
     pub prepared-as : (k : ℕ) (r : Ready) → c ≡ Whole k → Signed-as (signed (l .sig) (l .n)) (l .sig) table r → Prepared-as (prepared l reg) l reg table r
     prepared-as k r q S =
         let (rs, f, _) = contents-whole reg k c e q in
-        let h = shared-signed l (length reg) (used reg) ok (register-records reg) rs (L .passed) f in
+        let h = shared-signed l (outline-of reg) ok (register-records reg) rs (L .passed) f in
         record {
-          answer = lent-answer l (length reg) (used reg) rs table r L S (prepared l reg) h;
-          passed = λ v g. record { rs = rs; reads = f; lent-so = lent-so l (length reg) (used reg) rs table r L S (prepared l reg) h v g };
+          answer = lent-answer l (outline-of reg) rs table r L S (prepared l reg) h;
+          passed = λ v g. record { rs = rs; reads = f; lent-so = lent-so l (outline-of reg) rs table r L S (prepared l reg) h v g };
         }

@@ -4,14 +4,14 @@ use mathlib.Core.Path.{_≡_}
 use mathlib.Core.List.{List, []}
 use lib.Dec.{leb}
 use lib.ListN.{length, take}
-use Rattle.logic.specs.Limits.{least-workspace, least-register, most-register, most-operations}
+use Rattle.logic.specs.Limits.{least-workspace, most-register, most-operations}
 use Rattle.logic.specs.Refusals.{workspace-short, bad-number}
 use Rattle.logic.specs.Result.{Result, ok, refused, _>>=_, _>>_, require}
 use Rattle.logic.specs.Term.{Term}
 use Rattle.logic.specs.SignatureList.{signature, operations-test}
 use Rattle.typing.specs.Check.{Constants-of}
-use Rattle.register.specs.Records.{Record, header, used, register-records}
-use Rattle.register.specs.Calls.{Lent, View, view, length-test, shared, on-register}
+use Rattle.register.specs.Records.{Record, header, register-records}
+use Rattle.register.specs.Calls.{Lent, Outline, View, view, length-test, shared, outline-of, fresh-outline, on-register}
 use Rattle.calls.specs.declared.shared.Ready.{Ready}
 use Rattle.calls.specs.declared.shared.Ready.the-variants.{Constants, Fault}
 
@@ -42,26 +42,26 @@ abbrev pub prepared : Lent → List ℕ → Result View
 prepared l reg = on-register l reg ok
 
 abbrev pub opened : Lent → (len : ℕ) → Result View
-opened l len = shared l len header (ok []) ok
+opened l len = shared l (fresh-outline len) (ok []) ok
 
 -- how many constants they find
 abbrev pub constants-found : Result View → Result ℕ
 constants-found o = o >>= λ v. ok (length (v .Σ))
 
 -- the tests passed
-pub record Lent-so (l : Lent) (len used : ℕ) (rs : List Record) (table : List ℕ) (v : View) : Type 0 where
-  pub is : v ≡ view l len used rs (v .Σ)
+pub record Lent-so (l : Lent) (o : Outline) (rs : List Record) (table : List ℕ) (v : View) : Type 0 where
+  pub is : v ≡ view l o rs (v .Σ)
   pub constants : Constants-of (l .sig) (take (length (v .Σ)) table) (v .Σ)
   pub workspace : least-workspace ≤ l .workspace
-  pub not-shorter : least-register ≤ len
-  pub not-longer : len ≤ most-register
+  pub not-shorter : header ≤ o .size
+  pub not-longer : o .size ≤ most-register
   pub operations : l .n ≤ most-operations
 
 -- on a register
 pub record Register-so (l : Lent) (reg table : List ℕ) (v : View) : Type 0 where
   pub rs : List Record
   pub reads : register-records reg ≡ ok rs
-  pub lent-so : Lent-so l (length reg) (used reg) rs table v
+  pub lent-so : Lent-so l (outline-of reg) rs table v
 
 -- the answer, and what is so where the tests passed
 pub record Prepared-as (o : Result View) (l : Lent) (reg table : List ℕ) (r : Ready) : Type 0 where
@@ -70,4 +70,4 @@ pub record Prepared-as (o : Result View) (l : Lent) (reg table : List ℕ) (r : 
 
 pub record Opened-as (o : Result View) (l : Lent) (len : ℕ) (table : List ℕ) (r : Ready) : Type 0 where
   pub answer : ready-answer r ≡ constants-found o
-  pub passed : (v : View) → o ≡ ok v → Lent-so l len header [] table v
+  pub passed : (v : View) → o ≡ ok v → Lent-so l (fresh-outline len) [] table v

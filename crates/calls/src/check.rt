@@ -6,6 +6,7 @@ use logic::limit::MOST_WORDS;
 use logic::refusal::NOT_HELD;
 use records::search::Unheld;
 use records::search::first_unheld;
+use records::search::in_register;
 use rules::derivation::Derivation;
 use typing::check::check_term;
 ghost use lib.ListN.{length};
@@ -27,7 +28,8 @@ pub fn judge(sig: &[u32], n: u32, register: &[u32], term: &[u32], ws: &mut [u32]
             let Derivation::Typed { words: _, end: _ } = typed else {
                 return typed;
             };
-            let unheld = first_unheld(register, term);
+            let source = in_register(register);
+            let unheld = first_unheld(source, register, term);
             match unheld {
                 Unheld::At(place) => Derivation::Refused {
                     number: NOT_HELD,

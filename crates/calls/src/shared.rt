@@ -1,5 +1,4 @@
 // The tests that calls share: 1 to 4, and of 5 the number of operations with their permits and receipts.
-use logic::limit::LEAST_REGISTER;
 use logic::limit::LEAST_WORKSPACE;
 use logic::limit::MOST_REGISTER;
 use logic::refusal::BAD_NUMBER;
@@ -7,6 +6,7 @@ use logic::refusal::BAD_SIGNATURE;
 use logic::refusal::REGISTER_BROKEN;
 use logic::refusal::REGISTER_LENGTH;
 use logic::refusal::WORKSPACE_SHORT;
+use records::format::HEADER;
 use records::walk::Contents;
 use records::walk::walk;
 use signature::list::Listed;
@@ -57,7 +57,7 @@ fn lengths(workspace: usize, register: usize) -> u32
     if workspace < LEAST_WORKSPACE {
         return WORKSPACE_SHORT;
     }
-    if register < LEAST_REGISTER {
+    if register < HEADER {
         return REGISTER_LENGTH;
     }
     if MOST_REGISTER < register {

@@ -294,7 +294,7 @@ pub request-bound : (l : Lent) (reg : List ℕ) (k : Ask) {m p : ℕ} → reques
 request-bound l reg k e = refusal (shared-within l (outline-of reg) (register-records reg) (request-own k) (records-within reg) (request-own-within k)) e
 
 pub open-bound : (l : Lent) (reg rules : List ℕ) {m p : ℕ} → open-call l reg rules ≡ refused m p → Number m × (p ≤ length (l .sig) + length rules)
-open-bound l reg rules e = refusal (shared-within l (fresh-outline reg) (ok []) (open-own rules) passed (open-own-within rules)) e
+open-bound l reg rules e = refusal (shared-within l (fresh-outline (length reg)) (ok []) (open-own rules) passed (open-own-within rules)) e
 
 -- read names no place
 read-within-none : (reg : List ℕ) (k : ℕ) → Within 0 (read-call reg k)

@@ -1,11 +1,17 @@
-use Prim.Native.Nat.{_-_, _≤_}
-use mathlib.Core.Path.{_∙_, sym}
+-- The words of the rules, each once. The invariant: the total is what the rules before the place take. The measure: the
+-- words that are left.
+use Prim.Native.Nat.{_+_, _-_, _≤_}
+use mathlib.Core.Path.{_≡_, sym, _∙_}
+use mathlib.Core.Bool.{Bool}
+use mathlib.Core.List.{[]}
 use native.Mathlib.Omega.{arith}
 use lib.ListN.{length}
-use lib.Seq.{length-take-le}
-use borrow.Author.Needs.{needs}
 use borrow.Author.Tests.{not-true, not-false}
-use Rattle.rule_list.proofs.RuleList.{Within, Counting, counting-start, counting-within, counting-held, counting-added, counting-end}
+use Rattle.register.specs.Records.{length-word, held}
+use Rattle.register.specs.History.{each-once}
+use Rattle.records.proofs.Sought.{holds-rules}
+use Rattle.rule_list.proofs.RuleList.{Turn, turn, rule-at, Counting, counting-start, counting-held, counting-added, counting-end}
+use borrow.Author.Needs.{needs}
 use Rattle.rule_list.proofs.opening.opening_words.Statement.{statement}
 use Rattle.rule_list.proofs.opening.opening_words.Tie as tie
 
@@ -15,93 +21,110 @@ Inv-loop rules total₀ at₀ total at = (at ≤ length rules) × Counting rules
 abbrev μ-loop : tie.MeasureT-loop
 μ-loop rules total₀ at₀ total at = length rules - at
 
+-- ---- places, from a later one back to an earlier one
+
+abbrev start : tie.At-loop Inv-loop μ-loop → tie.Start Inv-loop μ-loop
+start c = c .before .before
+
+-- from the search for a rule back to its turn
+abbrev turning : tie.After-is-held Inv-loop μ-loop → tie.In-loop Inv-loop μ-loop
+turning c = c .before .before .before .before .before
+
+-- ---- what holds there
+
+-- the rule at hand stands whole in the list
+here : (c : tie.In-loop Inv-loop μ-loop) → Turn (start (c .before) .args .rules .now) (c .before .loop .at) (c .before .loop .inv .1 .place)
+here c = let l = c .before .loop in turn (start (c .before) .args .rules .now) (l .at) (l .inv .1 .place) (c .loop-test .taken)
+
+-- what the search tells
+told : (c : tie.After-is-held Inv-loop μ-loop) →
+    let l = turning c .before .loop in
+    let st = rule-at (start (turning c .before) .args .rules .now) (l .at) in
+    c .is-held .result ≡ held (each-once [] (l .inv .1 .place .before)) (st .principal) (st .words)
+told c =
+    let l = turning c .before .loop in
+    let p = l .inv .1 .place in
+    let source = c .before .before .before in
+    c .is-held .ensures (each-once [] (p .before))
+    (holds-rules (start (turning c .before) .args .rules .now) (l .at) (p .before) (source .rules-before .ensures) (p .front))
+
 loop-holds : tie.Need-loop-holds Inv-loop μ-loop
 loop-holds c = (omega arith, counting-start (c .before .args .rules .now) (c .before .pre))
 
--- the rule at hand stands whole in the list
-within : (c : tie.In-loop Inv-loop μ-loop) → Within (c .before .before .before .args .rules .now) (c .before .loop .at)
-within c = let l = c .before .loop in counting-within (c .before .before .before .args .rules .now) (l .at) (l .total) (l .inv .1) (c .loop-test .taken)
-
 add-n : tie.Need-add-n Inv-loop μ-loop
-add-n c = let w = within c in omega arith
+add-n c = let t = here c in omega (arith, t .fits)
 
 mul-n : tie.Need-mul-n Inv-loop μ-loop
-mul-n c = let w = within c in omega arith
+mul-n c = let t = here c in omega (arith, t .fits, t .low)
 
 shared-slice-read-n : tie.Need-shared-slice-read-n Inv-loop μ-loop
-shared-slice-read-n c = let w = within (c .before) in omega arith
+shared-slice-read-n c = let t = here (c .before) in omega (arith, t .fits, t .low)
 
 cast-n : tie.Need-cast-n Inv-loop μ-loop
-cast-n c = let w = within (c .before) in omega arith
+cast-n c = omega (arith, c .shared-slice-known2 .given (c .before .before .loop .at + length-word))
 
 add-start : tie.Need-add-start Inv-loop μ-loop
-add-start c = let w = within (c .before) in omega arith
+add-start c = let t = here (c .before) in omega (arith, t .fits)
 
 add-end : tie.Need-add-end Inv-loop μ-loop
-add-end c = let w = within (c .before) in omega arith
+add-end c = let t = here (c .before) in omega (arith, t .fits)
 
-slice-aggregate-rule-held : tie.Need-slice-aggregate-rule-held Inv-loop μ-loop
-slice-aggregate-rule-held c =
-    sym
-    (length-take-le (c .before .before .before .loop .at) (c .before .before .before .before .before .args .rules .now)
-    (c .before .before .before .loop .inv .0))
+rules-before-requires : tie.Need-rules-before-requires Inv-loop μ-loop
+rules-before-requires c κs = search needs
 
-mul-rule-held : tie.Need-mul-rule-held Inv-loop μ-loop
-mul-rule-held c = let w = within (c .before .before) in omega arith
+mul-is-held : tie.Need-mul-is-held Inv-loop μ-loop
+mul-is-held c = let t = here (c .before .before) in omega (arith, t .fits)
 
-shared-slice-read-rule-held : tie.Need-shared-slice-read-rule-held Inv-loop μ-loop
-shared-slice-read-rule-held c = let w = within (c .before .before .before) in omega arith
+shared-slice-read-is-held : tie.Need-shared-slice-read-is-held Inv-loop μ-loop
+shared-slice-read-is-held c = let t = here (c .before .before .before) in omega (arith, t .fits)
 
-mul-rule-held-2 : tie.Need-mul-rule-held-2 Inv-loop μ-loop
-mul-rule-held-2 c = let w = within (c .before .before .before) in omega arith
+mul-is-held-2 : tie.Need-mul-is-held-2 Inv-loop μ-loop
+mul-is-held-2 c = let t = here (c .before .before .before) in omega (arith, t .fits)
 
-sub-rule-held : tie.Need-sub-rule-held Inv-loop μ-loop
-sub-rule-held c = search needs
+sub-is-held : tie.Need-sub-is-held Inv-loop μ-loop
+sub-is-held c = search needs
 
-part-rule-held-start : tie.Need-part-rule-held-start Inv-loop μ-loop
-part-rule-held-start c = search needs
+part-is-held-start : tie.Need-part-is-held-start Inv-loop μ-loop
+part-is-held-start c = search needs
 
-part-rule-held-end : tie.Need-part-rule-held-end Inv-loop μ-loop
-part-rule-held-end c = let w = within (c .before .before .before) in omega arith
+part-is-held-end : tie.Need-part-is-held-end Inv-loop μ-loop
+part-is-held-end c = let t = here (c .before .before .before) in omega (arith, t .fits)
 
-rule-held-requires : tie.Need-rule-held-requires Inv-loop μ-loop
-rule-held-requires c κs = c .before .before .before .before .before .loop .inv .1 .whole
-
--- ---- places, from a later one back to an earlier one
-
-abbrev before-loop : tie.At-loop Inv-loop μ-loop → tie.Start Inv-loop μ-loop
-before-loop c = c .before .before
-
-abbrev before-in-loop : tie.In-loop Inv-loop μ-loop → tie.At-loop Inv-loop μ-loop
-before-in-loop c = c .before
-
-abbrev before-shared-slice-known2 : tie.After-shared-slice-known2 Inv-loop μ-loop → tie.In-loop Inv-loop μ-loop
-before-shared-slice-known2 c = c .before
+is-held-requires : tie.Need-is-held-requires Inv-loop μ-loop
+is-held-requires c κs =
+    let s = c .before .before in
+    let l = s .before .before .before .loop in
+    let p = l .inv .1 .place in
+    record {
+    found = each-once [] (p .before);
+    holds = holds-rules (start (s .before .before .before) .args .rules .now) (l .at) (p .before) (s .rules-before .ensures) (p .front)
+    }
 
 add-total : tie.Need-add-total Inv-loop μ-loop
 add-total c =
-    let at-loop = before-in-loop (before-shared-slice-known2 (c .before .before .before .before .before)) in
-    let b = at-loop .loop .inv .1 .few in omega arith
+    let w = turning (c .before) in
+    let t = here w in
+    let l = w .before .loop in
+    omega (arith, t .fits, l .inv .1 .few)
 
 add-total-2 : tie.Need-add-total-2 Inv-loop μ-loop
 add-total-2 c =
-    let in-loop = before-shared-slice-known2 (c .before .before .before .before .before) in
-    let at-loop = before-in-loop in-loop in
-    let w = within in-loop in let b = at-loop .loop .inv .1 .few in omega arith
+    let w = turning (c .before) in
+    let t = here w in
+    let l = w .before .loop in
+    omega (arith, t .fits, l .inv .1 .few)
 
 loop-less : tie.Need-loop-less Inv-loop μ-loop
 loop-less c = search needs
 
 loop-again : tie.Need-loop-again Inv-loop μ-loop
 loop-again c =
-    let in-loop = before-shared-slice-known2 (c .before .before .before .before .before) in
-    let at-loop = before-in-loop in-loop in
-    let at-start = before-loop at-loop in
-    let r = at-start .args .rules .now in
-    let l = at-loop .loop in (
-      within in-loop .fits,
-      counting-added r (l .at) (l .total) (l .inv .1) (in-loop .loop-test .taken)
-          (sym (c .before .rule-held .ensures) ∙ not-true _ (c .if1 .taken)),
+    let w = turning (c .before) in
+    let l = w .before .loop in
+    (
+    here w .fits,
+    counting-added (start (w .before) .args .rules .now) (l .at) (l .total) (l .inv .1) (w .loop-test .taken)
+        (sym (told (c .before)) ∙ not-true _ (c .if1 .taken)),
     )
 
 loop-less-2 : tie.Need-loop-less-2 Inv-loop μ-loop
@@ -109,18 +132,18 @@ loop-less-2 c = search needs
 
 loop-again-2 : tie.Need-loop-again-2 Inv-loop μ-loop
 loop-again-2 c =
-    let in-loop = before-shared-slice-known2 (c .before .before .before .before .before) in
-    let at-loop = before-in-loop in-loop in
-    let at-start = before-loop at-loop in
-    let r = at-start .args .rules .now in
-    let l = at-loop .loop in (
-      within in-loop .fits,
-      counting-held r (l .at) (l .total) (l .inv .1) (in-loop .loop-test .taken)
-          (sym (c .before .rule-held .ensures) ∙ not-false _ (c .if1 .left)),
+    let w = turning (c .before) in
+    let l = w .before .loop in
+    (
+    here w .fits,
+    counting-held (start (w .before) .args .rules .now) (l .at) (l .total) (l .inv .1) (w .loop-test .taken)
+        (sym (told (c .before)) ∙ not-false _ (c .if1 .left)),
     )
 
 returns : tie.Need-returns Inv-loop μ-loop
-returns c = let l = c .before .loop in counting-end (c .before .before .before .args .rules .now) (l .at) (l .total) (l .inv .1) (omega arith)
+returns c =
+    let l = c .before .loop in
+    counting-end (start (c .before) .args .rules .now) (l .at) (l .total) (l .inv .1) (omega arith)
 
 pub opening-words-spec : {M : Type 1} → statement M
 opening-words-spec =
@@ -135,14 +158,14 @@ opening-words-spec =
     cast-n
     add-start
     add-end
-    slice-aggregate-rule-held
-    mul-rule-held
-    shared-slice-read-rule-held
-    mul-rule-held-2
-    sub-rule-held
-    part-rule-held-start
-    part-rule-held-end
-    rule-held-requires
+    rules-before-requires
+    mul-is-held
+    shared-slice-read-is-held
+    mul-is-held-2
+    sub-is-held
+    part-is-held-start
+    part-is-held-end
+    is-held-requires
     add-total
     add-total-2
     loop-less
