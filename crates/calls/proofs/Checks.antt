@@ -56,7 +56,7 @@ own-tests l o records own =
 pub not-ready : (o : Result View) (r : Ready) → ready-answer r ≡ constants-found o → (m p : ℕ) → r ≡ Fault m p → o ≡ refused m p
 not-ready o r e m p q = not-mapped (λ v. length (v .Σ)) o (sym e ∙ ap ready-answer q)
 
-module _ {Y : Type 0} (l : Lent) (reg table : List ℕ) (r : Ready) (own : View → Result Y) (P : Prepared-as (prepared l reg) l reg table r) where
+module _ {Y : Type 0} (l : Lent) (reg table : List ℕ) (r : Ready) (own : View → Result Y) (P : Prepared-as l reg table r) where
   -- the shared tests refused
   pub not-prepared : (m p : ℕ) → r ≡ Fault m p → on-register l reg own ≡ refused m p
   not-prepared m p q = own-tests l (outline-of reg) (register-records reg) own ∙ stop own (not-ready (prepared l reg) r (P .answer) m p q)
@@ -139,7 +139,7 @@ judged-refused o end new m p e = subst (λ (x : Result Term). Judged x end new (
 
 -- ---- check
 
-module _ (l : Lent) (reg table term : List ℕ) (r : Ready) (P : Prepared-as (prepared l reg) l reg table r) where
+module _ (l : Lent) (reg table term : List ℕ) (r : Ready) (P : Prepared-as l reg table r) where
   pub check-not-prepared : (new : List ℕ) (m p : ℕ) → r ≡ Fault m p → Judged (check-call l reg term) (length term) new (Refused m p)
   check-not-prepared new m p q = judged-refused _ _ new m p (not-prepared l reg table r (check-own term) P m p q)
 

@@ -15,9 +15,9 @@ use Rattle.register.specs.Calls.{Lent, Outline, View, view, length-test, shared
 use Rattle.calls.specs.declared.shared.Ready.{Ready}
 use Rattle.calls.specs.declared.shared.Ready.the-variants.{Constants, Fault}
 
--- what a call is lent
-abbrev pub lent-of : (sig : List ℕ) (n workspace : ℕ) → Lent
-lent-of sig n workspace = record { sig = sig; n = n; workspace = workspace }
+-- what a call is lent: of the workspace only the length matters
+abbrev pub lent-of : (sig : List ℕ) (n : ℕ) (workspace : List ℕ) → Lent
+lent-of sig n workspace = record { sig = sig; n = n; workspace = length workspace }
 
 -- tests 1 and 2
 abbrev pub lengths-test : (workspace register : ℕ) → Result (Unit {0})
@@ -33,9 +33,9 @@ ready-answer (Constants n) = ok n
 ready-answer (Fault m p) = refused m p
 
 -- the answer; and where the signature is accepted, the first words of the table say where its constants' types stand
-pub record Signed-as (o : Result (List Term)) (sig table : List ℕ) (r : Ready) : Type 0 where
-  pub answer : ready-answer r ≡ (o >>= λ Σ. ok (length Σ))
-  pub constants : (Σ : List Term) → o ≡ ok Σ → Constants-of sig (take (length Σ) table) Σ
+pub record Signed-as (sig : List ℕ) (n : ℕ) (table : List ℕ) (r : Ready) : Type 0 where
+  pub answer : ready-answer r ≡ (signed sig n >>= λ Σ. ok (length Σ))
+  pub constants : (Σ : List Term) → signed sig n ≡ ok Σ → Constants-of sig (take (length Σ) table) Σ
 
 -- what the shared tests find: for calls on a register that is not broken, and for open
 abbrev pub prepared : Lent → List ℕ → Result View
@@ -64,10 +64,10 @@ pub record Register-so (l : Lent) (reg table : List ℕ) (v : View) : Type 0 whe
   pub lent-so : Lent-so l (outline-of reg) rs table v
 
 -- the answer, and what is so where the tests passed
-pub record Prepared-as (o : Result View) (l : Lent) (reg table : List ℕ) (r : Ready) : Type 0 where
-  pub answer : ready-answer r ≡ constants-found o
-  pub passed : (v : View) → o ≡ ok v → Register-so l reg table v
+pub record Prepared-as (l : Lent) (reg table : List ℕ) (r : Ready) : Type 0 where
+  pub answer : ready-answer r ≡ constants-found (prepared l reg)
+  pub passed : (v : View) → prepared l reg ≡ ok v → Register-so l reg table v
 
-pub record Opened-as (o : Result View) (l : Lent) (len : ℕ) (table : List ℕ) (r : Ready) : Type 0 where
-  pub answer : ready-answer r ≡ constants-found o
-  pub passed : (v : View) → o ≡ ok v → Lent-so l (fresh-outline len) [] table v
+pub record Opened-as (l : Lent) (len : ℕ) (table : List ℕ) (r : Ready) : Type 0 where
+  pub answer : ready-answer r ≡ constants-found (opened l len)
+  pub passed : (v : View) → opened l len ≡ ok v → Lent-so l (fresh-outline len) [] table v

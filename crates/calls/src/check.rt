@@ -17,7 +17,8 @@ ghost use Rattle.calls.specs.Shared.{lent-of};
 
 // Tests 1 to 12 and 14. The type stands at the front of the workspace.
 pub fn judge(sig: &[u32], n: u32, register: &[u32], term: &[u32], ws: &mut [u32]) -> Derivation
-    ensures { λ r. ⌜ Judged (check-call (lent-of (now (sig .entry)) n (length (now (ws .entry)))) (now (register .entry)) (now (term .entry))) (length (now (term .entry))) (now (ws .exit)) r ⌝ }
+    ensures { λ r. ⌜ Judged (check-call (lent-of (now (sig .entry)) n (now (ws .entry))) (now (register .entry)) (now (term .entry)))
+        (length (now (term .entry))) (now (ws .exit)) r ⌝ }
 {
     let mut table = [0u32; 256];
     let ready = prepare(sig, n, register, &mut table, ws);
@@ -51,7 +52,8 @@ pub fn check<'a>(
     number: &mut u32,
     place: &mut usize,
 ) -> &'a mut [u32]
-    ensures { λ r. ⌜ Handed (check-call (lent-of (now (sig .entry)) n (length (now (ws .entry)))) (now (register .entry)) (now (term .entry))) (now r) (now (number .exit)) (now (place .exit)) ⌝ }
+    ensures { λ r. ⌜ Handed (check-call (lent-of (now (sig .entry)) n (now (ws .entry))) (now (register .entry)) (now (term .entry)))
+        (now r) (now (number .exit)) (now (place .exit)) ⌝ }
 {
     let judged = judge(sig, n, register, term, ws);
     match judged {

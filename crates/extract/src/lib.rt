@@ -24,7 +24,7 @@ pub fn extract(
     out: &mut [u32],
 ) -> Verdict
     ensures { λ r. ⌜ Extracted
-        (extract-call (lent-of (now (sig .entry)) n (length (now (ws .entry)))) (now (register .entry)) operation extract delivery
+        (extract-call (lent-of (now (sig .entry)) n (now (ws .entry))) (now (register .entry)) operation extract delivery
         (now (proof .entry)) (now (homes .entry)) (now (surveys .entry)) (length (now (out .entry))))
         (now (register .entry)) operation extract delivery (now (proof .entry)) (now (register .exit)) (now (out .entry)) (now (out .exit)) r ⌝ }
 {

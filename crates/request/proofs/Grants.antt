@@ -98,7 +98,7 @@ module _ (l : Lent) (Σ : List Term) (rs : List Record) (reg : List ℕ) (i v u 
 
 -- ---- all tests
 
-module _ (l : Lent) (reg table p : List ℕ) (i v u : ℕ) (r : Ready) (P : Prepared-as (prepared l reg) l reg table r) where
+module _ (l : Lent) (reg table p : List ℕ) (i v u : ℕ) (r : Ready) (P : Prepared-as l reg table r) where
   pub request-not-prepared : (m place : ℕ) → r ≡ Unready m place → refused m place ≡ request-call l reg i v u p
   request-not-prepared m place q = sym (not-prepared l reg table r (request-own i v u p) P m place q)
 

@@ -119,7 +119,7 @@ fn grantable(
     ws: &mut [u32],
 ) -> Verdict
     ensures { λ r. ⌜ verdict-answer r ≡
-        request-call (lent-of (now (sig .entry)) n (length (now (ws .entry)))) (now (register .entry)) operation extract delivery (now (proof .entry)) ⌝ }
+        request-call (lent-of (now (sig .entry)) n (now (ws .entry))) (now (register .entry)) operation extract delivery (now (proof .entry)) ⌝ }
 {
     let mut table = [0u32; 256];
     let ready = prepare(sig, n, register, &mut table, ws);
@@ -155,7 +155,7 @@ pub fn request(
     proof: &[u32],
     ws: &mut [u32],
 ) -> Verdict
-    ensures { λ r. ⌜ Requested (request-call (lent-of (now (sig .entry)) n (length (now (ws .entry)))) (now (register .entry)) operation extract delivery (now (proof .entry))) (now (register .entry)) operation extract delivery (now (proof .entry)) (now (register .exit)) r ⌝ }
+    ensures { λ r. ⌜ Requested (request-call (lent-of (now (sig .entry)) n (now (ws .entry))) (now (register .entry)) operation extract delivery (now (proof .entry))) (now (register .entry)) operation extract delivery (now (proof .entry)) (now (register .exit)) r ⌝ }
 {
     let tested = grantable(
         sig,

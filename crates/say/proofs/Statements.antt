@@ -86,7 +86,7 @@ statement-so Σ sig a ws r e q =
 
 -- ---- all tests
 
-module _ (l : Lent) (reg table ws : List ℕ) (a : ℕ) (r : Ready) (P : Prepared-as (prepared l reg) l reg table r) where
+module _ (l : Lent) (reg table ws : List ℕ) (a : ℕ) (r : Ready) (P : Prepared-as l reg table r) where
   pub say-not-prepared : (m place : ℕ) → r ≡ Unready m place → refused m place ≡ say-call l reg a ws
   say-not-prepared m place q = sym (not-prepared l reg table r (say-own a ws) P m place q)
 

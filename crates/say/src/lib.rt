@@ -72,7 +72,7 @@ fn sayable(
     ws: &mut [u32],
 ) -> Said
     ensures { λ r. ⌜ said-answer r ≡
-        say-call (lent-of (now (sig .entry)) n (length (now (ws .entry)))) (now (register .entry)) principal (now (proposition .entry)) ⌝ }
+        say-call (lent-of (now (sig .entry)) n (now (ws .entry))) (now (register .entry)) principal (now (proposition .entry)) ⌝ }
 {
     let mut table = [0u32; 256];
     let ready = prepare(sig, n, register, &mut table, ws);
@@ -109,7 +109,7 @@ pub fn say(
     proposition: &[u32],
     ws: &mut [u32],
 ) -> Said
-    ensures { λ r. ⌜ Says-so (say-call (lent-of (now (sig .entry)) n (length (now (ws .entry)))) (now (register .entry)) principal (now (proposition .entry))) (now (register .entry)) principal (now (proposition .entry)) (now (register .exit)) r ⌝ }
+    ensures { λ r. ⌜ Says-so (say-call (lent-of (now (sig .entry)) n (now (ws .entry))) (now (register .entry)) principal (now (proposition .entry))) (now (register .entry)) principal (now (proposition .entry)) (now (register .exit)) r ⌝ }
 {
     let tested = sayable(sig, n, &register[..], principal, proposition, ws);
     match tested {

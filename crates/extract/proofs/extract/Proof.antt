@@ -34,7 +34,7 @@ matched c = c .before .before .before
 -- ---- what holds there
 
 abbrev lent-here : tie.Start → Lent
-lent-here s = lent-of (s .args .sig .now) (s .args .n) (length (s .args .ws .now))
+lent-here s = lent-of (s .args .sig .now) (s .args .n) (s .args .ws .now)
 
 -- behind the test, the form holds
 in-form : (c : tie.After-request) →

@@ -13,7 +13,7 @@ use Rattle.request.proofs.grantable.Reads as grantable-reads
 
 -- what is lent
 abbrev lent-here : tie.Start → Lent
-lent-here s = lent-of (s .args .sig .now) (s .args .n) (length (s .args .ws .now))
+lent-here s = lent-of (s .args .sig .now) (s .args .n) (s .args .ws .now)
 
 grantable-requires : tie.Need-grantable-requires
 grantable-requires c κs = search needs

@@ -12,7 +12,7 @@ use Rattle.say.proofs.sayable.Reads as sayable-reads
 
 -- what is lent
 abbrev lent-here : tie.Start → Lent
-lent-here s = lent-of (s .args .sig .now) (s .args .n) (length (s .args .ws .now))
+lent-here s = lent-of (s .args .sig .now) (s .args .n) (s .args .ws .now)
 
 sayable-requires : tie.Need-sayable-requires
 sayable-requires c κs = search needs

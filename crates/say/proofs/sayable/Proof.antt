@@ -17,7 +17,7 @@ use Rattle.typing.proofs.check.check_statement.Reads as check-statement-reads
 
 -- what is lent
 abbrev lent-here : tie.Start → Lent
-lent-here s = lent-of (s .args .sig .now) (s .args .n) (length (s .args .ws .now))
+lent-here s = lent-of (s .args .sig .now) (s .args .n) (s .args .ws .now)
 
 -- ---- places, from a later one back to an earlier one
 

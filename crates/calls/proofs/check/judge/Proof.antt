@@ -1,7 +1,8 @@
+-- Tests 1 to 12 and 14 in turn: the shared ones, the term's type, its Signs.
 use mathlib.Core.Path.{sym}
-use lib.ListN.{length}
 use lib.Seq.{length-take-le}
 use Rattle.register.specs.Calls.{Lent, check-own}
+use Rattle.records.proofs.Sought.{holds-register, header-there}
 use Rattle.calls.specs.Shared.{lent-of}
 use Rattle.calls.proofs.Checks.{Passed-so, passed-so, Typed-so, table-within, check-not-prepared, check-not-typed, type-here, term-here, check-unheld, check-held}
 use native.Mathlib.Omega.{arith}
@@ -16,7 +17,7 @@ use Rattle.typing.proofs.check.check_term.Reads as check-term-reads
 
 -- what is lent
 abbrev lent-here : tie.Start → Lent
-lent-here s = lent-of (s .args .sig .now) (s .args .n) (length (s .args .ws .now))
+lent-here s = lent-of (s .args .sig .now) (s .args .n) (s .args .ws .now)
 
 -- ---- places, from a later one back to an earlier one
 
@@ -35,8 +36,9 @@ before-ready2 c = c .before .before .before .before .before
 abbrev before-check-term : tie.After-check-term → tie.After-ready2
 before-check-term c = c .before .before .before .before
 
-abbrev before-match2-keys1 : tie.At-match2-keys1 → tie.After-check-term
-before-match2-keys1 c = c .before .before .before
+-- from the search back to the type
+abbrev before-first-unheld : tie.After-first-unheld → tie.After-enum-told
+before-first-unheld c = c .before .before
 
 -- the shared tests passed
 passed : (c : tie.After-ready2) →
@@ -135,10 +137,22 @@ returns c =
     (at-prepare .prepare .result) (at-prepare .prepare .ensures) (at-ready2 .ready2 .given .0 .0) (passed at-ready2) _
     (at-check-term .check-term .result) _ _ (at-check-term .check-term .ensures (S .Σ) (S .constants)) (c .enum-told2 .given .1)
 
+in-register-requires : tie.Need-in-register-requires
+in-register-requires c κs =
+    let at-ready2 = before-check-term (c .before .before .before .before) in
+    let at-start = before-table (before-prepare (before-ready2 at-ready2)) in
+    header-there (at-start .args .register .now) (passed at-ready2 .reads)
+
 first-unheld-requires : tie.Need-first-unheld-requires
 first-unheld-requires c κs =
-    let at-ready2 = before-check-term (c .before .before .before .before) in
-    let S = passed at-ready2 in let T = typed c in (record { found = S .rs; reads = S .reads }, record { term = T .term; is = T .term-is })
+    let at-told = c .before in
+    let at-ready2 = before-check-term (at-told .before .before .before .before) in
+    let at-start = before-table (before-prepare (before-ready2 at-ready2)) in
+    let S = passed at-ready2 in
+    let T = typed at-told in (
+      record { found = S .rs; holds = holds-register (at-start .args .register .now) (c .in-register .ensures) (S .reads) },
+      record { term = T .term; is = T .term-is },
+    )
 
 enum-known-unheld : tie.Need-enum-known-unheld
 enum-known-unheld c = search needs
@@ -162,17 +176,19 @@ same-length-3 c = search needs
 returns-3 : tie.Need-returns-3
 unfolding typed
 returns-3 c =
-    let at-check-term = before-match2-keys1 (c .before .before .before .before .before) in
+    let at-first-unheld = c .before .before .before in
+    let at-told = before-first-unheld at-first-unheld in
+    let at-check-term = at-told .before .before .before .before in
     let at-ready2 = before-check-term at-check-term in
     let at-prepare = before-ready2 at-ready2 in
     let at-start = before-table (before-prepare at-prepare) in
     let S = passed at-ready2 in
-    let T = typed (c .before .before .before .before) in
+    let T = typed at-told in
+    let held = holds-register (at-start .args .register .now) (at-first-unheld .before .in-register .ensures) (S .reads) in
     check-unheld (lent-here at-start) (at-start .args .register .now) (at-prepare .prepare .last .1 .1 .1 .0) (at-start .args .term .now)
     (at-prepare .prepare .result) (at-prepare .prepare .ensures) (at-ready2 .ready2 .given .0 .0) (passed at-ready2) _
-    (at-check-term .check-term .result) _ _ (at-check-term .check-term .ensures (S .Σ) (S .constants))
-    (c .before .before .before .before .enum-told .given .1) (c .before .before .before .first-unheld .result) _
-    (c .before .before .before .first-unheld .ensures (S .rs) (T .term) (S .reads) (T .term-is)) (c .before .unheld .given .1)
+    (at-check-term .check-term .result) _ _ (at-check-term .check-term .ensures (S .Σ) (S .constants)) (at-told .enum-told .given .1)
+    (at-first-unheld .first-unheld .result) _ (at-first-unheld .first-unheld .ensures (S .rs) (T .term) held (T .term-is)) (c .before .unheld .given .1)
 
 same-length-4 : tie.Need-same-length-4
 same-length-4 c = search needs
@@ -180,17 +196,19 @@ same-length-4 c = search needs
 returns-4 : tie.Need-returns-4
 unfolding typed
 returns-4 c =
-    let at-check-term = before-match2-keys1 (c .before .before .before .before) in
+    let at-first-unheld = c .before .before in
+    let at-told = before-first-unheld at-first-unheld in
+    let at-check-term = at-told .before .before .before .before in
     let at-ready2 = before-check-term at-check-term in
     let at-prepare = before-ready2 at-ready2 in
     let at-start = before-table (before-prepare at-prepare) in
     let S = passed at-ready2 in
-    let T = typed (c .before .before .before) in
+    let T = typed at-told in
+    let held = holds-register (at-start .args .register .now) (at-first-unheld .before .in-register .ensures) (S .reads) in
     check-held (lent-here at-start) (at-start .args .register .now) (at-prepare .prepare .last .1 .1 .1 .0) (at-start .args .term .now)
     (at-prepare .prepare .result) (at-prepare .prepare .ensures) (at-ready2 .ready2 .given .0 .0) (passed at-ready2) _
-    (at-check-term .check-term .result) _ _ (at-check-term .check-term .ensures (S .Σ) (S .constants))
-    (c .before .before .before .enum-told .given .1) (c .before .before .first-unheld .result)
-    (c .before .before .first-unheld .ensures (S .rs) (T .term) (S .reads) (T .term-is)) (c .enum-told3 .given .1)
+    (at-check-term .check-term .result) _ _ (at-check-term .check-term .ensures (S .Σ) (S .constants)) (at-told .enum-told .given .1)
+    (at-first-unheld .first-unheld .result) (at-first-unheld .first-unheld .ensures (S .rs) (T .term) held (T .term-is)) (c .enum-told3 .given .1)
 
 pub judge-spec : {M : Type 1} → statement M
 judge-spec =
@@ -207,6 +225,7 @@ judge-spec =
     enum-told-2
     same-length
     returns
+    in-register-requires
     first-unheld-requires
     enum-known-unheld
     enum-told-3

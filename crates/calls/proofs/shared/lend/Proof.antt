@@ -22,7 +22,7 @@ lengths-requires c κs = search needs
 returns : tie.Need-returns
 returns c =
     let s = c .before .before .before .before .before in
-    opened-refused (lent-of (s .args .sig .now) (s .args .n) (length (s .args .ws .now))) (s .args .register) (s .args .table .now)
+    opened-refused (lent-of (s .args .sig .now) (s .args .n) (s .args .ws .now)) (s .args .register) (s .args .table .now)
     (c .before .lengths .result) (c .before .lengths .ensures) (c .if1 .taken)
 
 -- ---- places, from a later one back to an earlier one
