@@ -32,14 +32,15 @@ fn fill_variable(
     to: usize,
 ) -> Filled
     requires { ⌜ (to ≤ length (now out)) × Fillable (now src) at c (now filler) ⌝ }
-    ensures { λ r. ⌜ ((n : ℕ) → (e : Term) → At (now (src .entry)) at (var n) → Is (now (filler .entry)) e → FilledTo (var n) (fillAt c e (var n)) at (now (out .entry)) to (now (out .exit)) r) ⌝ }
+    ensures { λ r. ⌜ ((n : ℕ) → (e : Term) → At (now (src .entry)) at (var n) → Is (now (filler .entry)) e
+        → FilledTo (var n) (fillAt c e (var n)) at (now (out .entry)) to (now (out .exit)) r) ⌝ }
 {
     let word = src[at];
     let n = payload_of(word);
     if n == c {
         if filler.len() <= out.len() - to {
             let up = c as i32;
-            let w = shift_into(filler, 0, 0, up, out, to);
+            let w = shift_into(filler, 0, up, out, to);
             return Filled::Done {
                 next: at + 1,
                 end: to + w,
@@ -64,7 +65,8 @@ fn fill_variable(
     }
 }
 
-// Writes the words of the term that stands at `at`, variable c replaced by the filler, into out from `to` on, as far as there is room.
+// Writes the words of the term that stands at `at`, variable c replaced by the filler, into out from `to` on, as far as
+// there is room.
 pub fn fill_into(
     src: &[u32],
     at: usize,
@@ -74,7 +76,8 @@ pub fn fill_into(
     to: usize,
 ) -> Filled
     requires { ⌜ (to ≤ length (now out)) × Fillable (now src) at c (now filler) ⌝ }
-    ensures { λ r. ⌜ ((t e : Term) → At (now (src .entry)) at t → Is (now (filler .entry)) e → FilledTo t (fillAt c e t) at (now (out .entry)) to (now (out .exit)) r) ⌝ }
+    ensures { λ r. ⌜ ((t e : Term) → At (now (src .entry)) at t → Is (now (filler .entry)) e
+        → FilledTo t (fillAt c e t) at (now (out .entry)) to (now (out .exit)) r) ⌝ }
 {
     let mut start = at;
     let mut depth = c;

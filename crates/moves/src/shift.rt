@@ -1,7 +1,5 @@
 // Moving a term across binders.
-use logic::word::ATOM;
 use logic::word::NODE;
-use logic::word::SIGN;
 use logic::word::VARIABLE;
 use logic::word::VARIABLE_0;
 use logic::word::kind;
@@ -17,11 +15,11 @@ ghost use Rattle.logic.specs.Limits.{payloads};
 ghost use Rattle.logic.specs.Term.{Term};
 ghost use Rattle.logic.specs.Result.{pick};
 ghost use Rattle.logic.specs.Move.{moved as movedBy};
-ghost use Rattle.words.specs.Place.{At};
-ghost use Rattle.moves.specs.Shift.{Shiftable, Shifted};
+ghost use Rattle.words.specs.Place.{At, Is};
+ghost use Rattle.moves.specs.Shift.{Shiftable, ShiftableWhole, Shifted};
 
-// "shifts every free variable up or down by a signed amount": the number of a variable that is free under c binders and the amount are added
-// as i32, and both casts are lossless.
+// "shifts every free variable up or down by a signed amount": the number of a variable that is free under c binders and
+// the amount are added as i32, and both casts are lossless.
 fn moved(n: u32, c: u32, amount: i32) -> u32
     requires { ⌜ (n < payloads) × (natAbs amount ≤ payloads) ⌝ }
     ensures { λ r. ⌜ (r ≡ pick (ltb n c) n (movedBy amount n)) × (r ≤ payloads + payloads) ⌝ }
@@ -33,34 +31,8 @@ fn moved(n: u32, c: u32, amount: i32) -> u32
     if m < 0 { 0 } else { m as u32 }
 }
 
-// Writes the words of the term that stands at `at`, its variables that are free under c binders moved by `amount`, into out from `to` on.
-// Returns how many.
-pub fn shift_into(src: &[u32], at: usize, c: u32, amount: i32, out: &mut [u32], to: usize) -> usize
-    requires { ⌜ (to ≤ length (now out)) × Shiftable (now src) at c amount (length (now out) - to) ⌝ }
-    ensures { λ r. ⌜ ((t : Term) → At (now (src .entry)) at t → Shifted t c amount (now (out .entry)) to (now (out .exit)) r) ⌝ }
-{
-    let word = src[at];
-    let k = kind(word);
-    if k == VARIABLE {
-        out[to] = VARIABLE_0 + moved(payload_of(word), c, amount);
-        return 1;
-    }
-    if k == SIGN {
-        // a signed proposition is closed, and is left unchanged
-        let n = skip(src, at) - at;
-        copy(src, at, n, out, to);
-        return n;
-    }
-    out[to] = word;
-    if k == ATOM {
-        return 1;
-    }
-    let a = shift_into(src, at + 1, c, amount, out, to + 1);
-    let b = shift_into(src, at + 1 + a, c + (k - NODE), amount, out, to + 1 + a);
-    1 + a + b
-}
-
-// The same in place. Returns how many words the term has.
+// Moves the variables that are free under c binders by `amount`, in the term that stands at `at`, in place. Returns how
+// many words the term has.
 pub fn shift_within(words: &mut [u32], at: usize, c: u32, amount: i32) -> usize
     requires { ⌜ Shiftable (now words) at c amount (length (now words) - at) ⌝ }
     ensures { λ r. ⌜ ((t : Term) → At (now (words .entry)) at t → Shifted t c amount (now (words .entry)) at (now (words .exit)) r) ⌝ }
@@ -72,10 +44,19 @@ pub fn shift_within(words: &mut [u32], at: usize, c: u32, amount: i32) -> usize
         return 1;
     }
     if k < NODE {
-        // an atom, or a Sign: nothing to move
+        // an atom, or a Sign, whose proposition is closed: nothing to move
         return skip(&words[..], at) - at;
     }
     let a = shift_within(words, at + 1, c, amount);
     let b = shift_within(words, at + 1 + a, c + (k - NODE), amount);
     1 + a + b
+}
+
+// The same for a term that src holds: its words are copied into out from `to` on, and shifted there.
+pub fn shift_into(src: &[u32], c: u32, amount: i32, out: &mut [u32], to: usize) -> usize
+    requires { ⌜ ShiftableWhole (now src) c amount (length (now out) - to) ⌝ }
+    ensures { λ r. ⌜ ((t : Term) → Is (now (src .entry)) t → Shifted t c amount (now (out .entry)) to (now (out .exit)) r) ⌝ }
+{
+    copy(src, 0, src.len(), out, to);
+    shift_within(out, to, c, amount)
 }

@@ -21,13 +21,15 @@ ghost use Rattle.rules.specs.Scope.{scope-words, Binders};
 ghost use Rattle.rules.specs.Form.{Formed};
 ghost use Rattle.rules.specs.Variable.{Walkable, Found, InScope, Raises, Raisable};
 
-// The first words of an entry: how many words the entry has, where the type stands in the proof, and how many words the type has. Where the entry has more, the type stands at its end.
+// The first words of an entry: how many words the entry has, where the type stands in the proof, and how many words the
+// type has. Where the entry has more, the type stands at its end.
 pub const ENTRY_HEAD: usize = 3;
 
 // How many words are kept from the entry of variable n on, or `floor` where there is no such binder.
 fn binder(ws: &[u32], floor: usize, used: usize, n: u32) -> usize
     requires { ⌜ Walkable (now ws) floor used ⌝ }
-    ensures { λ r. ⌜ ((proof : List ℕ) → (Γ : List Term) → Binders proof (scope-words floor used (now (ws .entry))) Γ → Found proof (now (ws .entry)) floor used n Γ r) ⌝ }
+    ensures { λ r. ⌜ ((proof : List ℕ) → (Γ : List Term) → Binders proof (scope-words floor used (now (ws .entry))) Γ
+        → Found proof (now (ws .entry)) floor used n Γ r) ⌝ }
 {
     let mut kept = used;
     let mut left = n;
@@ -41,7 +43,8 @@ fn binder(ws: &[u32], floor: usize, used: usize, n: u32) -> usize
     floor
 }
 
-// The type of `size` words that stands at `from`, raised to where variable n stands, by way of a buffer to the front of the workspace.
+// The type of `size` words that stands at `from`, raised to where variable n stands, by way of a buffer to the front of
+// the workspace.
 fn raised(
     proof: &[u32],
     ws: &mut [u32],
@@ -53,11 +56,12 @@ fn raised(
     buffer: &mut [u32],
 ) -> Derivation
     requires { ⌜ Raisable (now proof) (now ws) «in_workspace» from size n at (length (now buffer)) ⌝ }
-    ensures { λ r. ⌜ ((A : Term) → Is (partOf (now (proof .entry)) (now (ws .entry)) «in_workspace» from (from + size)) A → PlainType (raise (suc n) A) → Formed (ok (raise (suc n) A)) (at + 1) (now (ws .entry)) (now (ws .exit)) r) ⌝ }
+    ensures { λ r. ⌜ ((A : Term) → Is (partOf (now (proof .entry)) (now (ws .entry)) «in_workspace» from (from + size)) A
+        → PlainType (raise (suc n) A) → Formed (ok (raise (suc n) A)) (at + 1) (now (ws .entry)) (now (ws .exit)) r) ⌝ }
 {
     // "A binder's type stands either in the proof's words or in the workspace"
     let part = lookup(proof, &ws[..], in_workspace, from, from + size);
-    let words = shift_into(part, 0, 0, n as i32 + 1, buffer, 0);
+    let words = shift_into(part, 0, n as i32 + 1, buffer, 0);
     copy(&buffer[..], 0, words, ws, 0);
     Derivation::Typed { words, end: at + 1 }
 }
@@ -72,7 +76,8 @@ pub fn variable(
     at: usize,
 ) -> Derivation
     requires { ⌜ InScope (now proof) (now ws) floor used n at ⌝ }
-    ensures { λ r. ⌜ ((Γ : List Term) → Binders (now (proof .entry)) (scope-words floor used (now (ws .entry))) Γ → Raises Γ n → Formed (variable-type Γ at n) (at + 1) (now (ws .entry)) (now (ws .exit)) r) ⌝ }
+    ensures { λ r. ⌜ ((Γ : List Term) → Binders (now (proof .entry)) (scope-words floor used (now (ws .entry))) Γ → Raises Γ n
+        → Formed (variable-type Γ at n) (at + 1) (now (ws .entry)) (now (ws .exit)) r) ⌝ }
 {
     let kept = binder(&ws[..], floor, used, n);
     if kept == floor {

@@ -1,2 +1,2 @@
 -- What the program's tests tell.
-pub mod Amounts
+pub mod Tested

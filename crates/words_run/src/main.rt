@@ -42,7 +42,8 @@ fn nested_whole(words: &[u32], left: usize) -> Nesting {
     nested(words, 0, left)
 }
 
-// The words that `shift_into` writes into out, for words that are one term; 0 where they are none, or there is no room, or a number is too big.
+// The words that `shift_into` writes into out, for words that are one term; 0 where they are none, or there is no room,
+// or a number is too big.
 fn shifted(words: &[u32], c: u32, amount: i32, out: &mut [u32]) -> usize
     ensures { λ r. ⌜ Counts r (now (out .exit)) ⌝ }
 {
@@ -66,10 +67,11 @@ fn shifted(words: &[u32], c: u32, amount: i32, out: &mut [u32]) -> usize
     if FAR < amount {
         return 0;
     }
-    shift_into(words, 0, c, amount, out, 0)
+    shift_into(words, c, amount, out, 0)
 }
 
-// The words that `fill_into` writes into out, for a body and a filler that are one term each; 0 where they are none, or there is no room.
+// The words that `fill_into` writes into out, for a body and a filler that are one term each; 0 where they are none, or
+// there is no room.
 fn filled(body: &[u32], filler: &[u32], out: &mut [u32]) -> usize
     ensures { λ r. ⌜ Counts r (now (out .exit)) ⌝ }
 {

@@ -1,19 +1,32 @@
-use Rattle.io.proofs.Counting.{counts}
-use Rattle.words_run.proofs.Amounts.{near}
-use Rattle.words.specs.Parsing.{parse-answer}
-use Rattle.words.proofs.Parses.{whole-term}
-use Rattle.words.proofs.Places.{is-at}
+-- Behind the tests the words are one term, there is room for it, and its numbers and the amount are not too big. How
+-- many words were written is then within `out`.
 use mir.Val.{toZ, ofZ}
 use mir.Syntax.{w32}
-use mathlib.Core.Path.{sym, ap, _∙_}
 use native.Mathlib.Omega.{arith}
 use borrow.Author.Needs.{needs}
+use Rattle.io.proofs.Counting.{counts}
+use Rattle.words_run.proofs.Tested.{Holds, holds, near}
 use Rattle.words_run.proofs.shifted.Statement.{statement}
 use Rattle.words_run.proofs.shifted.Tie as tie
-use Rattle.words_run.proofs.shifted.Reads as reads
-use Rattle.words_run.proofs.shifted.Lts as lts
-use Rattle.words.proofs.read.read_whole.Reads as read-whole-reads
-use Rattle.moves.proofs.shift.shift_into.Reads as shift-into-reads
+
+-- ---- places, from a later one back to an earlier one
+
+abbrev start : tie.After-read → tie.Start
+start c = c .before .before .before .before .before
+
+-- from behind the tests of the numbers of words
+abbrev read : tie.Else3 → tie.After-read
+read c = c .before .before .before .before
+
+abbrev tested : tie.After-shift-into-arg → tie.Else3
+tested c = c .before .before .before
+
+-- ---- what holds there
+
+term : (c : tie.After-read) → Holds (start c .args .words .now) (c .read .given .0 .0)
+term c = holds (start c .args .words .now) _ (c .before .before .read-whole .ensures) (c .read .given .1)
+
+-- ---- the needs
 
 read-whole-requires : tie.Need-read-whole-requires
 read-whole-requires c κs = search needs
@@ -50,20 +63,26 @@ returns-6 c = search needs
 
 shift-into-requires : tie.Need-shift-into-requires
 shift-into-requires c κs =
-    let s = c .before .before .before .before .before .before .before .before .before .before .before .before in
-    let (t, e, is, n) = whole-term (s .args .words .now) _ (sym (c .before .before .before .before .before .before .before .before .before .read-whole .ensures) ∙ ap parse-answer (c .before .before .before .before .before .before .before .read .given .1)) in
-    (omega arith, record { term = t; here = is-at is; fits = omega arith; deep = omega arith; near = near (toZ w32 (ofZ w32 (s .args .amount))) (c .before .before .if4 .left) (c .before .if5 .left) })
+    let r = read (tested c) in
+    let h = term r in
+    record {
+      term = h .term;
+      whole = h .is;
+      fits = omega (arith, h .words);
+      deep = omega (arith, h .words);
+      near = near (toZ w32 (ofZ w32 (start r .args .amount))) (c .before .before .if4 .left) (c .before .if5 .left);
+    }
 
 same-length : tie.Need-same-length
 same-length c = search needs
 
 returns-7 : tie.Need-returns-7
 returns-7 c =
-    let s = c .before .before .before .before .before .before .before .before .before .before .before .before .before .before .before in
-    let (t, e, is, n) = whole-term (s .args .words .now) _ (sym (c .before .before .before .before .before .before .before .before .before .before .before .before .read-whole .ensures) ∙ ap parse-answer (c .before .before .before .before .before .before .before .before .before .before .read .given .1)) in
-    let r = c .before .before .shift-into .ensures t (is-at is) .count in
-    let k = c .before .before .shift-into .kept .1 .1 .1 .1 .0 in
-    counts _ _ (omega arith)
+    let w = c .before .before in
+    let h = term (read (tested (w .before))) in
+    let n = w .shift-into .ensures (h .term) (h .is) .count in
+    let k = w .shift-into .kept .1 .1 .1 .0 in
+    counts _ _ (omega (arith, h .count))
 
 pub shifted-spec : {M : Type 1} → statement M
 shifted-spec =

@@ -1,3 +1,4 @@
+-- Where a variable stands: the filler is written, or the variable as it is, or one lower, or there is no room.
 use Prim.Native.Nat.{_-_, _<_, _^_}
 use mathlib.Core.Path.{_≡_, ap}
 use native.Mathlib.Omega.{arith}
@@ -8,22 +9,47 @@ use mir.Val.{toZ}
 use mir.Facts.{toZ-pos}
 use borrow.Author.Needs.{needs}
 use Rattle.logic.specs.Term.{var}
+use Rattle.words.proofs.Places.{size-is}
+use Rattle.moves.proofs.Cases.{at-within}
 use Rattle.moves.proofs.Fills.{same-done, same-over, none-over, low-done, high-done}
-use Rattle.words.proofs.Places.{at-end, size-pos, is-at, size-is}
 use Rattle.moves.proofs.fill.fill_variable.Statement.{statement}
 use Rattle.moves.proofs.fill.fill_variable.Tie as tie
 
+-- ---- places, from a later one back to an earlier one
+
+abbrev start : tie.After-payload-of → tie.Start
+start c = c .before .before .before .before .before
+
+-- the variable is the one replaced, and there is room for the filler
+abbrev fits : tie.Then2 → tie.After-payload-of
+fits c = c .before .before
+
+-- from behind the shift of the filler
+abbrev shifted : tie.After-slice-known2 → tie.After-shift-into
+shifted c = c .before .before
+
+abbrev shifts : tie.After-shift-into → tie.Then2
+shifts c = c .before .before
+
+-- another variable, lower or higher, and there is room for a word
+abbrev lower : tie.Then4 → tie.After-payload-of
+lower c = c .before .before .before
+
+abbrev higher : tie.Else4 → tie.After-payload-of
+higher c = c .before .before .before
+
+-- ---- what holds there
+
 within : (s : tie.Start) → s .args .at < length (s .args .src .now)
-within s =
-    let a = at-end (s .pre .1 .here) in
-    let b = size-pos (s .pre .1 .term) in
-    omega arith
+within s = at-within (s .pre .1 .here)
 
 -- c, cast to an i32
 depth : (s : tie.Start) → toZ w32 (s .args .c) ≡ pos (s .args .c)
 depth s =
     let h : s .args .c < 2 ^ 31 = omega (arith, s .pre .1 .deep) in
     toZ-pos w32 h
+
+-- ---- the needs
 
 mul-word : tie.Need-mul-word
 mul-word c = let r = within (c .before .before .before) in omega arith
@@ -42,20 +68,21 @@ cast-up c = search needs
 
 shift-into-requires : tie.Need-shift-into-requires
 shift-into-requires c κs =
-    let s = c .before .before .before .before .before .before .before .before in
+    let s = start (fits (c .before)) in
     let p = s .pre .1 in
-    let l = size-is (s .args .filler .now) (p .filler) (p .lends) in
     let d : natAbs (toZ w32 (s .args .c)) ≡ s .args .c = ap natAbs (depth s) in
-    (s .pre .0, record { term = p .filler; here = is-at (p .lends); fits = omega arith; deep = omega arith; near = omega arith })
+    record { term = p .filler; whole = p .lends; fits = c .before .if2 .taken; deep = omega (arith, p .short); near = omega (arith, p .deep) }
 
 add-t21 : tie.Need-add-t21
-add-t21 c = let r = within (c .before .before .before .before .before .before .before .before .before .before .before) in omega arith
+add-t21 c = let r = within (start (fits (shifts (shifted c)))) in omega arith
 
 add-t22 : tie.Need-add-t22
 add-t22 c =
-    let s = c .before .before .before .before .before .before .before .before .before .before .before in
-    let e = c .before .before .shift-into .ensures (s .pre .1 .filler) (is-at (s .pre .1 .lends)) .count in
-    let l = size-is (s .args .filler .now) (s .pre .1 .filler) (s .pre .1 .lends) in
+    let w = shifted c in
+    let s = start (fits (shifts w)) in
+    let p = s .pre .1 in
+    let e = w .shift-into .ensures (p .filler) (p .lends) .count in
+    let l = size-is (s .args .filler .now) (p .filler) (p .lends) in
     omega arith
 
 same-length : tie.Need-same-length
@@ -63,18 +90,27 @@ same-length c = search needs
 
 returns : tie.Need-returns
 returns c =
-    let s = c .before .before .before .before .before .before .before .before .before .before .before in
-    same-done (s .args .src .now) (s .args .filler .now) (s .args .at) (s .args .c) _ (s .args .out .now) _ (s .args .to) (c .before .before .before .before .before .before .payload-of .result) (c .before .before .shift-into .result) (depth s) (s .pre .0) (c .before .before .before .before .if2 .taken) (c .before .before .before .before .before .before .payload-of .ensures) (c .before .before .before .before .before .if1 .taken) (c .before .before .shift-into .ensures)
+    let w = shifted c in
+    let d = shifts w in
+    let n = fits d .payload-of in
+    let s = start (fits d) in
+    let a = s .args in
+    λ m e h i. same-done (a .src .now) (a .filler .now) (a .at) (a .c) (a .out .now) (a .to) (n .result) (s .pre .0) (n .ensures) m e h i _
+    (w .shift-into .result) (depth s) (d .if2 .taken) (d .before .if1 .taken) (w .shift-into .ensures e i)
 
 returns-2 : tie.Need-returns-2
 returns-2 c =
-    let s = c .before .before .before .before .before .before .before in
-    same-over (s .args .src .now) (s .args .filler .now) (s .args .at) (s .args .c) (s .args .out .now) (s .args .to) (c .before .before .payload-of .result) (s .pre .0) (c .if2 .left) (c .before .before .payload-of .ensures) (c .before .if1 .taken)
+    let d = c .before .before in
+    let n = d .payload-of in
+    let s = start d in
+    let a = s .args in
+    λ m e h i. same-over (a .src .now) (a .filler .now) (a .at) (a .c) (a .out .now) (a .to) (n .result) (s .pre .0) (n .ensures) m e h i
+    (c .if2 .left) (c .before .if1 .taken)
 
 returns-3 : tie.Need-returns-3
 returns-3 c =
-    let s = c .before .before .before .before .before .before .before in
-    λ m e h i. none-over (var m) _ (s .args .at) (s .args .out .now) (s .args .to) (c .if3 .taken)
+    let a = start (c .before .before) .args in
+    λ m e h i. none-over (var m) _ (a .at) (a .out .now) (a .to) (c .if3 .taken)
 
 mul-out : tie.Need-mul-out
 mul-out c = search needs
@@ -83,7 +119,7 @@ slice-write-out : tie.Need-slice-write-out
 slice-write-out c = search needs
 
 add-t23 : tie.Need-add-t23
-add-t23 c = let r = within (c .before .before .before .before .before .before .before .before) in omega arith
+add-t23 c = let r = within (start (lower c)) in omega arith
 
 add-t25 : tie.Need-add-t25
 add-t25 c = search needs
@@ -93,8 +129,11 @@ same-length-2 c = search needs
 
 returns-4 : tie.Need-returns-4
 returns-4 c =
-    let s = c .before .before .before .before .before .before .before .before in
-    λ m e h i. low-done (s .args .src .now) (s .args .at) (s .args .c) (s .args .out .now) (s .args .to) (c .before .before .before .payload-of .result) (c .before .if3 .left) (c .before .before .before .payload-of .ensures) (c .if4 .taken) m e h
+    let n = lower c .payload-of in
+    let s = start (lower c) in
+    let a = s .args in
+    λ m e h i. low-done (a .src .now) (a .filler .now) (a .at) (a .c) (a .out .now) (a .to) (n .result) (s .pre .0) (n .ensures) m e h i
+    (c .before .if3 .left) (c .if4 .taken)
 
 sub-out : tie.Need-sub-out
 sub-out c = search needs
@@ -109,7 +148,7 @@ slice-write-out-2 : tie.Need-slice-write-out-2
 slice-write-out-2 c = search needs
 
 add-t11 : tie.Need-add-t11
-add-t11 c = let r = within (c .before .before .before .before .before .before .before .before) in omega arith
+add-t11 c = let r = within (start (higher c)) in omega arith
 
 add-t28 : tie.Need-add-t28
 add-t28 c = search needs
@@ -119,8 +158,11 @@ same-length-3 c = search needs
 
 returns-5 : tie.Need-returns-5
 returns-5 c =
-    let s = c .before .before .before .before .before .before .before .before in
-    λ m e h i. high-done (s .args .src .now) (s .args .at) (s .args .c) (s .args .out .now) (s .args .to) (c .before .before .before .payload-of .result) (c .before .if3 .left) (c .before .before .before .payload-of .ensures) (c .if4 .left) (c .before .before .if1 .left) m e h
+    let n = higher c .payload-of in
+    let s = start (higher c) in
+    let a = s .args in
+    λ m e h i. high-done (a .src .now) (a .filler .now) (a .at) (a .c) (a .out .now) (a .to) (n .result) (s .pre .0) (n .ensures) m e h i
+    (c .before .if3 .left) (c .if4 .left) (c .before .before .if1 .left)
 
 pub fill-variable-spec : {M : Type 1} → statement M
 fill-variable-spec =

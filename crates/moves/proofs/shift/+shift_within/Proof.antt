@@ -1,5 +1,8 @@
+-- The shift in place, by recursion on a term's children: a variable is moved, an atom or a Sign stays, and of a node
+-- the first child is shifted and then the second, which the first leaves where it stands. The measure is the number of
+-- words from the term's place to the end of the list.
 use Prim.Native.Nat.{ℕ, _+_, _-_, _≤_, _<_}
-use mathlib.Core.Path.{_≡_, sym, subst, _∙_}
+use mathlib.Core.Path.{_≡_, _∙_}
 use native.Mathlib.Omega.{arith}
 use lib.ListN.{length}
 use lib.IntN.{natAbs}
@@ -9,21 +12,21 @@ use mir.Syntax.{w32}
 use borrow.Author.Needs.{needs}
 use borrow.Fn.Kinds.{In}
 use borrow.Fn.PlainCycle.{Measures, is, falls, and}
-use Rattle.logic.proofs.Shapes.{headKind}
-use Rattle.logic.specs.Term.{Term}
 use Rattle.logic.specs.Limits.{payloads}
-use Rattle.moves.proofs.Shifts.{var-shifted, kept-shifted, second-within, node-within}
-use Rattle.words.proofs.Places.{at-kind, at-end, size-pos, Halves, halves}
-use Rattle.words.proofs.Lists.{written-same}
-use Rattle.moves.specs.Shift.{Shifted}
+use Rattle.logic.specs.Term.{Term, size}
+use Rattle.logic.proofs.Shapes.{headKind}
+use Rattle.logic.proofs.word.kind.Reads as kind-reads
+use Rattle.logic.proofs.word.payload_of.Reads as payload-of-reads
 use Rattle.words.specs.Place.{At}
+use Rattle.words.proofs.Places.{at-kind, at-end, size-pos, Halves, halves}
+use Rattle.words.proofs.part.skip.Reads as skip-reads
+use Rattle.moves.specs.Shift.{Shifted}
+use Rattle.moves.proofs.Cases.{at-within, variable-case, node-case}
+use Rattle.moves.proofs.Shifts.{var-shifted, kept-shifted, second-stands, node-shifted}
+use Rattle.moves.proofs.shift.moved.Reads as moved-reads
 use Rattle.moves.proofs.shift.shift_within.Reads as shift-within
 use Rattle.moves.proofs.shift.shift_within.Kinds as kinds
 use Rattle.moves.proofs.shift.+shift_within.Lts-shift_within as lts
-use Rattle.logic.proofs.word.kind.Reads as kind-reads
-use Rattle.logic.proofs.word.payload_of.Reads as payload-of-reads
-use Rattle.words.proofs.part.skip.Reads as skip-reads
-use Rattle.moves.proofs.shift.moved.Reads as moved-reads
 use Rattle.moves.proofs.shift.+shift_within.{statement}
 use Rattle.moves.proofs.shift.+shift_within.Tie.{close}
 
@@ -31,163 +34,214 @@ abbrev μ-shift-within : Measures 1 kinds.ps ℕ
 μ-shift-within κs a = length (a .0 .now) - a .1 .0
 
 abbrev given : ℕ → In 1 kinds.ps
-given t =
-    and 1 kinds.ps (is 1 kinds.ps μ-shift-within t) shift-within.Pre
+given t = and 1 kinds.ps (is 1 kinds.ps μ-shift-within t) shift-within.Pre
 
 abbrev below : ℕ → In 1 kinds.ps
-below t =
-    and
-    1
-    kinds.ps
-    (falls 1 kinds.ps _<_ μ-shift-within t)
-    shift-within.Pre
+below t = and 1 kinds.ps (falls 1 kinds.ps _<_ μ-shift-within t) shift-within.Pre
 
 -- what the code that it calls asks and tells
 abbrev calls : ℕ → lts.Claims
-calls t = (kind-reads.Asked, kind-reads.Learnt, payload-of-reads.Asked, payload-of-reads.Learnt, moved-reads.Asked, moved-reads.Learnt, skip-reads.Asked, skip-reads.Learnt, below t, shift-within.Post)
+calls t = (
+  kind-reads.Asked,
+  kind-reads.Learnt,
+  payload-of-reads.Asked,
+  payload-of-reads.Learnt,
+  moved-reads.Asked,
+  moved-reads.Learnt,
+  skip-reads.Asked,
+  skip-reads.Learnt,
+  below t,
+  shift-within.Post,
+)
 
--- ---- what is known at some places
+module _ (t : ℕ) where
+  -- ---- places, from a later one back to an earlier one
 
-within : (t : ℕ) (s : lts.Start (calls t) (given t) shift-within.Post) → s .args .at < length (s .args .words .now)
-within t s =
-    let a = at-end (s .pre .1 .here) in
-    let b = size-pos (s .pre .1 .term) in
-    omega arith
+  abbrev Start : Type 0
+  Start = lts.Start (calls t) (given t) shift-within.Post
 
--- an i32 that is handed on is read back from its bits
-amount : (t : ℕ) (s : lts.Start (calls t) (given t) shift-within.Post) → toZ w32 (ofZ w32 (s .args .amount)) ≡ s .args .amount
-amount t s = toZ-ofZ (s .fits .amount)
+  -- the kind of the first word was asked for
+  abbrev Known : Type 0
+  Known = lts.After-kind (calls t) (given t) shift-within.Post
 
-near : (t : ℕ) (s : lts.Start (calls t) (given t) shift-within.Post) → natAbs (toZ w32 (ofZ w32 (s .args .amount))) ≤ payloads
-near t s = rw (amount t s) (s .pre .1 .near)
+  -- it is a node
+  abbrev Node : Type 0
+  Node = lts.Else2 (calls t) (given t) shift-within.Post
 
--- the kind that was found is that of any term that stands there
-kind-known : (t : ℕ) (c : lts.After-kind (calls t) (given t) shift-within.Post) (u : Term) → At (c .before .before .before .args .words .now) (c .before .before .before .args .at) u → c .kind .result ≡ headKind u
-kind-known t c u h = c .kind .ensures ∙ at-kind h
+  -- the first child is shifted
+  abbrev First : Type 0
+  First = lts.After-shift-within (calls t) (given t) shift-within.Post
 
--- the children of the node that stands there
-node : (t : ℕ) (c : lts.Else2 (calls t) (given t) shift-within.Post) → Halves (c .before .before .before .before .before .args .words .now) (c .before .before .before .before .before .args .at) (c .before .before .kind .result) (c .before .before .before .before .before .pre .1 .term)
-node t c =
-    let s = c .before .before .before .before .before in
-    let p = s .pre .1 in
-    halves (s .args .words .now) (s .args .at) (c .before .before .kind .result) (p .term) (p .here) (kind-known t (c .before .before) (p .term) (p .here)) (λ e. omega arith) (λ e. omega arith) (λ e. omega arith)
+  abbrev start : Known → Start
+  start c = c .before .before .before
 
--- what the first child's shift wrote, and that the second child still stands behind it
-first-shifted : (t : ℕ) (c : lts.After-shift-within (calls t) (given t) shift-within.Post) → Shifted (node t (c .before .before) .first) (c .before .before .before .before .before .before .before .args .c) (toZ w32 (ofZ w32 (c .before .before .before .before .before .before .before .args .amount))) (c .before .before .before .before .before .before .before .args .words .now) (c .before .before .before .before .before .before .before .args .at + 1) (c .shift-within .last .0) (c .shift-within .result)
-first-shifted t c = let n = node t (c .before .before) in c .shift-within .ensures (n .first) (n .left)
+  abbrev known : Node → Known
+  known c = c .before .before
 
-second : (t : ℕ) (c : lts.After-shift-within (calls t) (given t) shift-within.Post) → At (c .shift-within .last .0) (c .before .before .before .before .before .before .before .args .at + 1 + c .shift-within .result) (node t (c .before .before) .second)
-second t c =
-    let s = c .before .before .before .before .before .before .before in
-    let n = node t (c .before .before) in
-    let f = first-shifted t c in
-    second-within (s .args .words .now) _ (s .args .at) (s .args .c) (c .shift-within .result) _ (n .first) (n .second) (within t s) f (subst (λ (i : ℕ). At (s .args .words .now) (s .args .at + 1 + i) (n .second)) (sym (f .count)) (n .right))
+  abbrev as-node : First → Node
+  as-node c = c .before .before
 
-mul-word : (t : ℕ) → lts.Need-mul-word (calls t) (given t) shift-within.Post
-mul-word t c = let r = within t (c .before) in omega (arith, c .before .good)
+  -- from the second call, and from behind it
+  abbrev first : lts.After-shift-within-arg2 (calls t) (given t) shift-within.Post → First
+  first c = c .before .before .before
 
-slice-read-word : (t : ℕ) → lts.Need-slice-read-word (calls t) (given t) shift-within.Post
-slice-read-word t c = let r = within t (c .before .before) in omega arith
+  abbrev second-call : lts.After-slice-known4 (calls t) (given t) shift-within.Post → lts.After-shift-within-arg2 (calls t) (given t) shift-within.Post
+  second-call c = c .before .before .before
 
-kind-requires : (t : ℕ) → lts.Need-kind-requires (calls t) (given t) shift-within.Post
-kind-requires t c κs = search needs
+  abbrev first-start : First → Start
+  first-start c = start (known (as-node c))
 
-payload-of-requires : (t : ℕ) → lts.Need-payload-of-requires (calls t) (given t) shift-within.Post
-payload-of-requires t c κs = search needs
+  -- ---- what holds there
 
-moved-requires : (t : ℕ) → lts.Need-moved-requires (calls t) (given t) shift-within.Post
-moved-requires t c κs = search needs
+  within : (s : Start) → s .args .at < length (s .args .words .now)
+  within s = at-within (s .pre .1 .here)
 
-add-words : (t : ℕ) → lts.Need-add-words (calls t) (given t) shift-within.Post
-add-words t c = search needs
+  -- an i32 that is handed on is read back from its bits
+  amount : (s : Start) → toZ w32 (ofZ w32 (s .args .amount)) ≡ s .args .amount
+  amount s = toZ-ofZ (s .fits .amount)
 
-mul-words : (t : ℕ) → lts.Need-mul-words (calls t) (given t) shift-within.Post
-mul-words t c = let r = within t (c .before .before .before .before .before .before) in omega (arith, c .before .before .before .before .before .before .good)
+  near : (s : Start) → natAbs (toZ w32 (ofZ w32 (s .args .amount))) ≤ payloads
+  near s = rw (amount s) (s .pre .1 .near)
 
-slice-write-words : (t : ℕ) → lts.Need-slice-write-words (calls t) (given t) shift-within.Post
-slice-write-words t c = let r = within t (c .before .before .before .before .before .before) in omega arith
+  -- the kind that was found is that of any term that stands there
+  kind-known : (c : Known) (u : Term) → At (start c .args .words .now) (start c .args .at) u → c .kind .result ≡ headKind u
+  kind-known c u h = c .kind .ensures ∙ at-kind h
 
-same-length : (t : ℕ) → lts.Need-same-length (calls t) (given t) shift-within.Post
-same-length t c = search needs
+  -- the children of the node that stands there
+  node : (c : Node) → let k = known c in let s = start k in Halves (s .args .words .now) (s .args .at) (k .kind .result) (s .pre .1 .term)
+  node c =
+      let k = known c in
+      let s = start k in
+      let p = s .pre .1 in
+      halves (s .args .words .now) (s .args .at) (k .kind .result) (p .term) (p .here) (kind-known k (p .term) (p .here))
+      (λ e. omega arith) (λ e. omega arith) (λ e. omega arith)
 
-returns : (t : ℕ) → lts.Need-returns (calls t) (given t) shift-within.Post
-returns t c =
-    let s = c .before .before .before .before .before .before in
-    let r = within t s in
-    λ u h. var-shifted (s .args .words .now) (s .args .at) (s .args .c) (s .args .amount) _ (s .args .words .now) (s .args .at) (c .before .before .before .kind .result) (c .before .payload-of .result) (c .moved .result) (amount t s) (c .before .before .if1 .taken) (omega arith) (c .before .payload-of .ensures) (c .moved .ensures .0) u h (kind-known t (c .before .before .before) u h)
+  -- what the first child's shift wrote, and that the second child still stands behind it
+  first-shifted : (c : First) → let a = first-start c .args in
+      Shifted (node (as-node c) .first) (a .c) (toZ w32 (ofZ w32 (a .amount))) (a .words .now) (a .at + 1) (c .shift-within .last .0) (c .shift-within .result)
+  first-shifted c = let n = node (as-node c) in c .shift-within .ensures (n .first) (n .left)
 
-skip-requires : (t : ℕ) → lts.Need-skip-requires (calls t) (given t) shift-within.Post
-skip-requires t c κs = search needs
+  second : (c : First) → At (c .shift-within .last .0) (first-start c .args .at + 1 + c .shift-within .result) (node (as-node c) .second)
+  second c =
+      let s = first-start c in
+      let n = node (as-node c) in
+      second-stands (s .args .words .now) _ (s .args .at) (s .args .c) (c .shift-within .result) _ (n .first) (n .second) (within s)
+      (first-shifted c) (n .right)
 
-sub-result : (t : ℕ) → lts.Need-sub-result (calls t) (given t) shift-within.Post
-sub-result t c = let p = c .before .before .before .before .before .before .before .pre .1 in let e = c .skip .ensures (p .term) (p .here) in omega arith
+  -- it ends within the list
+  second-end : (c : First) →
+      let s = first-start c in s .args .at + 1 + c .shift-within .result + size (node (as-node c) .second) ≤ length (s .args .words .now)
+  second-end c = let n = node (as-node c) in omega (arith, at-end (n .right), first-shifted c .count)
 
-same-length-2 : (t : ℕ) → lts.Need-same-length-2 (calls t) (given t) shift-within.Post
-same-length-2 t c = search needs
+  -- ---- the needs
 
-returns-2 : (t : ℕ) → lts.Need-returns-2 (calls t) (given t) shift-within.Post
-returns-2 t c =
-    let s = c .before .before .before .before .before .before .before in
-    let p = s .pre .1 in
-    let e = c .skip .ensures (p .term) (p .here) in
-    let r = at-end (p .here) in
-    λ u h. kept-shifted (s .args .words .now) (s .args .at) (s .args .c) (s .args .amount) (s .args .words .now) (s .args .words .now) (s .args .at) (c .before .before .before .before .kind .result) (c .skip .result) (c .before .before .before .if1 .left) (omega arith) (c .skip .ensures) (sym (written-same (s .args .words .now) (s .args .at) (c .skip .result - s .args .at) (omega arith))) u h (kind-known t (c .before .before .before .before) u h)
+  mul-word : lts.Need-mul-word (calls t) (given t) shift-within.Post
+  mul-word c = let r = within (c .before) in omega (arith, c .before .good)
 
-add-shift-within : (t : ℕ) → lts.Need-add-shift-within (calls t) (given t) shift-within.Post
-add-shift-within t c = let r = within t (c .before .before .before .before .before .before) in omega (arith, c .before .before .before .before .before .before .good)
+  slice-read-word : lts.Need-slice-read-word (calls t) (given t) shift-within.Post
+  slice-read-word c = let r = within (c .before .before) in omega arith
 
-shift-within-requires : (t : ℕ) → lts.Need-shift-within-requires (calls t) (given t) shift-within.Post
-shift-within-requires t c κs =
-    let s = c .before .before .before .before .before .before in
-    let r = at-end (s .pre .1 .here) in
-    let n = node t (c .before) in
-    let a = size-pos (n .first) in
-    (omega arith, record { term = n .first; here = n .left; fits = omega arith; deep = omega arith; near = omega (arith, near t s) })
+  kind-requires : lts.Need-kind-requires (calls t) (given t) shift-within.Post
+  kind-requires c κs = search needs
 
-add-shift-within-2 : (t : ℕ) → lts.Need-add-shift-within-2 (calls t) (given t) shift-within.Post
-add-shift-within-2 t c = let r = within t (c .before .before .before .before .before .before .before .before .before .before) in omega (arith, c .before .before .before .before .before .before .before .before .before .before .good)
+  payload-of-requires : lts.Need-payload-of-requires (calls t) (given t) shift-within.Post
+  payload-of-requires c κs = search needs
 
-add-shift-within-3 : (t : ℕ) → lts.Need-add-shift-within-3 (calls t) (given t) shift-within.Post
-add-shift-within-3 t c =
-    let r = at-end (c .before .before .before .before .before .before .before .before .before .before .pre .1 .here) in
-    let n = node t (c .before .before .before .before .before) in
-    let e = first-shifted t (c .before .before .before) .count in
-    omega (arith, c .before .before .before .before .before .before .before .before .before .before .good)
+  moved-requires : lts.Need-moved-requires (calls t) (given t) shift-within.Post
+  moved-requires c κs = search needs
 
-add-shift-within-4 : (t : ℕ) → lts.Need-add-shift-within-4 (calls t) (given t) shift-within.Post
-add-shift-within-4 t c = let n = node t (c .before .before .before .before .before) in omega arith
+  add-words : lts.Need-add-words (calls t) (given t) shift-within.Post
+  add-words c = search needs
 
-shift-within-requires-2 : (t : ℕ) → lts.Need-shift-within-requires-2 (calls t) (given t) shift-within.Post
-shift-within-requires-2 t c κs =
-    let s = c .before .before .before .before .before .before .before .before .before .before in
-    let r = at-end (s .pre .1 .here) in
-    let n = node t (c .before .before .before .before .before) in
-    let k = c .before .before .before .shift-within .kept .0 in
-    let e = first-shifted t (c .before .before .before) .count in
-    (omega arith, record { term = n .second; here = second t (c .before .before .before); fits = omega arith; deep = omega arith; near = omega (arith, near t s) })
+  mul-words : lts.Need-mul-words (calls t) (given t) shift-within.Post
+  mul-words c = let s = start (c .before .before .before) in let r = within s in omega (arith, s .good)
 
-add-result : (t : ℕ) → lts.Need-add-result (calls t) (given t) shift-within.Post
-add-result t c =
-    let r = at-end (c .before .before .before .before .before .before .before .before .before .before .before .before .before .pre .1 .here) in
-    let n = node t (c .before .before .before .before .before .before .before .before) in
-    let e = first-shifted t (c .before .before .before .before .before .before) .count in
-    omega (arith, c .before .before .before .before .before .before .before .before .before .before .before .before .before .good)
+  slice-write-words : lts.Need-slice-write-words (calls t) (given t) shift-within.Post
+  slice-write-words c = let r = within (start (c .before .before .before)) in omega arith
 
-add-result-2 : (t : ℕ) → lts.Need-add-result-2 (calls t) (given t) shift-within.Post
-add-result-2 t c =
-    let r = at-end (c .before .before .before .before .before .before .before .before .before .before .before .before .before .pre .1 .here) in
-    let n = node t (c .before .before .before .before .before .before .before .before) in
-    let e = first-shifted t (c .before .before .before .before .before .before) .count in
-    let f = c .before .before .shift-within2 .ensures (n .second) (second t (c .before .before .before .before .before .before)) .count in
-    omega (arith, c .before .before .before .before .before .before .before .before .before .before .before .before .before .good)
+  same-length : lts.Need-same-length (calls t) (given t) shift-within.Post
+  same-length c = search needs
 
-same-length-3 : (t : ℕ) → lts.Need-same-length-3 (calls t) (given t) shift-within.Post
-same-length-3 t c = search needs
+  returns : lts.Need-returns (calls t) (given t) shift-within.Post
+  returns c =
+      let k = c .before .before .before in
+      let s = start k in
+      let p = c .before .payload-of in
+      variable-case _ (kind-known k) (c .before .before .if1 .taken)
+      (var-shifted (s .args .words .now) (s .args .at) (s .args .c) (s .args .amount) (p .result) (amount s) (within s) (p .ensures) (c .moved .ensures .0))
 
-returns-3 : (t : ℕ) → lts.Need-returns-3 (calls t) (given t) shift-within.Post
-returns-3 t c =
-    let s = c .before .before .before .before .before .before .before .before .before .before .before .before .before in
-    λ u h. node-within (s .args .words .now) _ _ (s .args .at) (s .args .c) (s .args .amount) _ (c .before .before .before .before .before .before .before .before .before .before .kind .result) (c .before .before .before .before .before .before .shift-within .result) (c .before .before .shift-within2 .result) (amount t s) (λ e. omega arith) (λ e. omega arith) (λ e. omega arith) (within t s) (c .before .before .before .before .before .before .shift-within .ensures) (c .before .before .shift-within2 .ensures) u h (kind-known t (c .before .before .before .before .before .before .before .before .before .before) u h)
+  skip-requires : lts.Need-skip-requires (calls t) (given t) shift-within.Post
+  skip-requires c κs = search needs
+
+  sub-result : lts.Need-sub-result (calls t) (given t) shift-within.Post
+  sub-result c =
+      let p = start (c .before .before .before .before) .pre .1 in
+      let e = c .skip .ensures (p .term) (p .here) in
+      omega arith
+
+  same-length-2 : lts.Need-same-length-2 (calls t) (given t) shift-within.Post
+  same-length-2 c = search needs
+
+  returns-2 : lts.Need-returns-2 (calls t) (given t) shift-within.Post
+  returns-2 c =
+      let variable-not = c .before .before .before in
+      let k = variable-not .before in
+      let s = start k in
+      λ u h. kept-shifted (s .args .words .now) (s .args .at) (s .args .c) (s .args .amount) (k .kind .result) (c .skip .result)
+      (variable-not .if1 .left) (omega arith) u (kind-known k u h) h (c .skip .ensures u h)
+
+  add-shift-within : lts.Need-add-shift-within (calls t) (given t) shift-within.Post
+  add-shift-within c = let s = start (known (c .before)) in let r = within s in omega (arith, s .good)
+
+  shift-within-requires : lts.Need-shift-within-requires (calls t) (given t) shift-within.Post
+  shift-within-requires c κs =
+      let s = start (known (c .before)) in
+      let r = at-end (s .pre .1 .here) in
+      let n = node (c .before) in
+      let a = size-pos (n .first) in
+      (omega arith, record { term = n .first; here = n .left; fits = omega arith; deep = omega arith; near = omega (arith, near s) })
+
+  add-shift-within-2 : lts.Need-add-shift-within-2 (calls t) (given t) shift-within.Post
+  add-shift-within-2 c = let s = first-start (first c) in let r = within s in omega (arith, s .good)
+
+  add-shift-within-3 : lts.Need-add-shift-within-3 (calls t) (given t) shift-within.Post
+  add-shift-within-3 c = let r = second-end (first c) in omega (arith, first-start (first c) .good)
+
+  add-shift-within-4 : lts.Need-add-shift-within-4 (calls t) (given t) shift-within.Post
+  add-shift-within-4 c = let n = node (as-node (first c)) in omega arith
+
+  shift-within-requires-2 : lts.Need-shift-within-requires-2 (calls t) (given t) shift-within.Post
+  shift-within-requires-2 c κs =
+      let f = first c in
+      let s = first-start f in
+      let r = second-end f in
+      let n = node (as-node f) in
+      let a = size-pos (n .second) in
+      let k = f .shift-within .kept .0 in
+      (omega arith, record { term = n .second; here = second f; fits = omega arith; deep = omega arith; near = omega (arith, near s) })
+
+  add-result : lts.Need-add-result (calls t) (given t) shift-within.Post
+  add-result c = let f = first (second-call c) in let r = second-end f in omega (arith, first-start f .good)
+
+  add-result-2 : lts.Need-add-result-2 (calls t) (given t) shift-within.Post
+  add-result-2 c =
+      let f = first (second-call c) in
+      let r = second-end f in
+      let g = c .before .before .shift-within2 .ensures (node (as-node f) .second) (second f) .count in
+      omega (arith, first-start f .good)
+
+  same-length-3 : lts.Need-same-length-3 (calls t) (given t) shift-within.Post
+  same-length-3 c = search needs
+
+  returns-3 : lts.Need-returns-3 (calls t) (given t) shift-within.Post
+  returns-3 c =
+      let f = first (second-call c) in
+      let k = known (as-node f) in
+      let s = start k in
+      let g = c .before .before .shift-within2 in
+      node-case _ (kind-known k) (omega arith)
+      (node-shifted (s .args .words .now) (s .args .at) (s .args .c) (s .args .amount) (k .kind .result) (amount s) (within s)
+      (f .shift-within .ensures) (g .ensures))
 
 pub +shift-within-spec : {M : Type 1} → statement M
 +shift-within-spec = close μ-shift-within λ t. lts.spec (calls t)

@@ -1,36 +1,65 @@
+-- The type's words are looked up, shifted into the buffer, and copied from there to the front of the workspace.
 use Prim.Native.Nat.{ℕ, suc, _+_, _≤_}
 use native.Mathlib.Omega.{arith}
 use native.Mathlib.Numerals.{add-one}
 use mathlib.Core.Path.{_≡_, ap, subst, sym, _∙_}
-use mathlib.Core.List.{List}
-use lib.IntN.{pos, _+ℤ_}
+use mathlib.Core.List.{List, [], append-nil}
+use lib.IntN.{ℤ, pos, _+ℤ_}
 use mir.Syntax.{w32}
 use mir.Val.{toZ, ofZ}
 use borrow.Author.Needs.{needs}
 use Rattle.logic.specs.Limits.{most-type-words}
-use Rattle.logic.specs.Term.{Term, size}
-use Rattle.words.specs.Place.{Is}
+use Rattle.logic.specs.Term.{Term, encode, size}
+use Rattle.logic.proofs.Words.{plain-in-range, prefix-free}
+use Rattle.words.specs.Place.{At, Is}
 use Rattle.words.specs.Lookup.{partOf}
-use Rattle.words.proofs.Places.{is-at, size-is}
+use Rattle.words.proofs.Places.{size-is}
+use Rattle.moves.specs.Shift.{Shifted}
 use Rattle.rules.proofs.Variables.{amount-fits, amount-is, amount-near, picked-length, raised-front}
 use Rattle.rules.proofs.scope.raised.Statement.{statement}
 use Rattle.rules.proofs.scope.raised.Tie as tie
+
+-- ---- places, from a later one back to an earlier one
+
+abbrev start : tie.After-lookup → tie.Start
+start c = c .before .before .before .before .before
+
+-- from the copy back to the shift, and from there to the lookup
+abbrev shifted : tie.After-copy-arg2 → tie.After-shift-into
+shifted c = c .before .before .before .before
+
+abbrev looked-up : tie.After-shift-into → tie.After-lookup
+looked-up c = c .before .before
+
+-- ---- what holds there
 
 -- an i32 that is handed on is read back from its bits
 amount : (s : tie.Start) → toZ w32 (ofZ w32 (toZ w32 (s .args .n) +ℤ pos 1)) ≡ pos (suc (s .args .n))
 amount s = amount-is (s .args .n) 1 (s .pre .number) (omega arith) ∙ ap pos (add-one (s .args .n))
 
--- the words looked up are the type's
-part : (c : tie.After-lookup) (A : Term) → Is (partOf (c .before .before .before .before .before .args .proof .now) (c .before .before .before .before .before .args .ws .now) (c .before .before .before .before .before .args .in-workspace) (c .before .before .before .before .before .args .from) (c .before .before .before .before .before .args .from + c .before .before .before .before .before .args .size)) A → Is (c .lookup .result .now) A
+-- the words of A are looked up
+abbrev Part : tie.Start → Term → Type 0
+Part s A = let a = s .args in Is (partOf (a .proof .now) (a .ws .now) (a .in-workspace) (a .from) (a .from + a .size)) A
+
+part : (c : tie.After-lookup) (A : Term) → Part (start c) A → Is (c .lookup .result .now) A
 part c A i = subst (λ (x : List ℕ). Is x A) (sym (c .lookup .ensures)) i
 
 -- any type whose words are looked up is that long
-short : (s : tie.Start) (A : Term) → Is (partOf (s .args .proof .now) (s .args .ws .now) (s .args .in-workspace) (s .args .from) (s .args .from + s .args .size)) A → size A ≤ most-type-words
+short : (s : tie.Start) (A : Term) → Part s A → size A ≤ most-type-words
 short s A i =
     let p = s .pre in
     let a = size-is _ A i in
     let b = size-is _ (p .type) (p .part) in
     omega (arith, p .type-words, p .small)
+
+-- what stands first in the words of A is A
+first-shifted : {ws old new : List ℕ} {z : ℤ} {r : ℕ} {A : Term} → Is ws A → Shifted A 0 z old 0 new r → (t : Term) → At ws 0 t → Shifted t 0 z old 0 new r
+first-shifted {ws} {old} {new} {z} {r} {A} i s t h =
+    let e = append-nil (encode A) ∙ sym (i .words) ∙ h .words in
+    let same : A ≡ t = prefix-free A t [] (h .rest) (plain-in-range A (i .plain)) (plain-in-range t (h .plain)) e .0 in
+    subst (λ (u : Term). Shifted u 0 z old 0 new r) same s
+
+-- ---- the needs
 
 add-lookup : tie.Need-add-lookup
 add-lookup c =
@@ -45,20 +74,29 @@ cast-shift-into : tie.Need-cast-shift-into
 cast-shift-into c = search needs
 
 add-shift-into : tie.Need-add-shift-into
-add-shift-into c = let s = c .before .before .before .before .before in amount-fits (s .args .n) _ (s .pre .number) (omega arith)
+add-shift-into c = let s = start c in amount-fits (s .args .n) _ (s .pre .number) (omega arith)
 
 shift-into-requires : tie.Need-shift-into-requires
 shift-into-requires c κs =
-    let s = c .before .before .before .before .before .before in
+    let s = start (c .before) in
     let p = s .pre in
-    (omega arith, record { term = p .type; here = is-at (part (c .before) (p .type) (p .part)); fits = omega (arith, p .type-words, p .fits); deep = omega (arith, p .type-words, p .small); near = amount-near (s .args .n) _ (p .number) (omega arith) })
+    let i = part (c .before) (p .type) (p .part) in
+    let l = size-is _ (p .type) i in
+    record {
+      term = p .type;
+      whole = i;
+      fits = omega (arith, p .type-words, p .fits);
+      deep = omega (arith, p .type-words, p .small);
+      near = amount-near (s .args .n) _ (p .number) (omega arith);
+    }
 
 copy-requires : tie.Need-copy-requires
 copy-requires c κs =
-    let s = c .before .before .before .before .before .before .before .before .before .before .before in
-    let p = s .pre in
-    let k = c .before .before .before .before .shift-into .ensures (p .type) (is-at (part (c .before .before .before .before .before .before) (p .type) (p .part))) .count in
-    let l = c .before .before .before .before .shift-into .kept .1 .1 .1 .1 .0 in
+    let w = shifted c in
+    let d = looked-up w in
+    let p = start d .pre in
+    let k = w .shift-into .ensures (p .type) (part d (p .type) (p .part)) .count in
+    let l = w .shift-into .kept .1 .1 .1 .0 in
     (omega (arith, p .type-words, p .fits), omega (arith, p .type-words, p .small, p .front))
 
 add-t13 : tie.Need-add-t13
@@ -72,8 +110,12 @@ same-length-2 c = search needs
 
 returns : tie.Need-returns
 returns c =
-    let s = c .before .before .before .before .before .before .before .before .before .before .before .before .before .before in
-    λ A i h. raised-front (s .args .at) A (short s A i) (amount s) (part (c .before .before .before .before .before .before .before .before .before) A i) (c .before .before .before .before .before .before .before .shift-into .ensures) (c .before .before .copy .ensures) h
+    let copy = c .before .before in
+    let w = shifted (copy .before) in
+    let d = looked-up w in
+    let s = start d in
+    λ A i h. let j = part d A i in
+    raised-front (s .args .at) A (short s A i) (amount s) j (first-shifted j (w .shift-into .ensures A j)) (copy .copy .ensures) h
 
 pub raised-spec : {M : Type 1} → statement M
 raised-spec =
