@@ -1,18 +1,43 @@
-use Rattle.io.proofs.Counting.{counts}
-use Rattle.moves.proofs.Fills.{done-is}
-use Rattle.words.specs.Parsing.{parse-answer}
-use Rattle.words.proofs.Parses.{whole-term}
-use Rattle.words.proofs.Places.{is-at, size-is}
-use Rattle.logic.specs.Move.{fillAt}
-use mathlib.Core.Path.{sym, ap, _∙_}
+-- Behind the tests body and filler are one term each, and not too long. Where there was room, how many words were
+-- written is within `out`.
 use native.Mathlib.Omega.{arith}
 use borrow.Author.Needs.{needs}
+use Rattle.io.proofs.Counting.{counts}
+use Rattle.logic.specs.Move.{fillAt}
+use Rattle.words.proofs.Places.{is-at}
+use Rattle.moves.proofs.Fills.{done-is}
+use Rattle.words_run.proofs.Tested.{Holds, holds}
 use Rattle.words_run.proofs.filled.Statement.{statement}
 use Rattle.words_run.proofs.filled.Tie as tie
-use Rattle.words_run.proofs.filled.Reads as reads
-use Rattle.words_run.proofs.filled.Lts as lts
-use Rattle.moves.proofs.fill.fill_into.Reads as fill-into-reads
-use Rattle.words.proofs.read.read_whole.Reads as read-whole-reads
+
+-- ---- places, from a later one back to an earlier one
+
+abbrev start : tie.After-read-whole → tie.Start
+start c = c .before .before .before .before
+
+-- the body is a term
+abbrev body-read : tie.After-first → tie.After-read-whole
+body-read c = c .before .before
+
+-- and the filler is one
+abbrev filler-read : tie.After-second → tie.After-read-whole2
+filler-read c = c .before .before
+
+abbrev first : tie.After-second → tie.After-first
+first c = filler-read c .before .before
+
+abbrev second : tie.After-fill-into-arg → tie.After-second
+second c = c .before .before .before .before
+
+-- ---- what holds there
+
+body : (c : tie.After-first) → Holds (start (body-read c) .args .body .now) (c .first .given .0 .0)
+body c = holds (start (body-read c) .args .body .now) _ (body-read c .read-whole .ensures) (c .first .given .1)
+
+filler : (c : tie.After-second) → Holds (start (body-read (first c)) .args .filler .now) (c .second .given .0 .0)
+filler c = holds (start (body-read (first c)) .args .filler .now) _ (filler-read c .read-whole2 .ensures) (c .second .given .1)
+
+-- ---- the needs
 
 read-whole-requires : tie.Need-read-whole-requires
 read-whole-requires c κs = search needs
@@ -49,11 +74,10 @@ returns-4 c = search needs
 
 fill-into-requires : tie.Need-fill-into-requires
 fill-into-requires c κs =
-    let s = c .before .before .before .before .before .before .before .before .before .before .before .before .before .before in
-    let (t, e, is, n) = whole-term (s .args .body .now) _ (sym (c .before .before .before .before .before .before .before .before .before .before .read-whole .ensures) ∙ ap parse-answer (c .before .before .before .before .before .before .before .before .first .given .1)) in
-    let (u, e′, is′, m) = whole-term (s .args .filler .now) _ (sym (c .before .before .before .before .before .before .read-whole2 .ensures) ∙ ap parse-answer (c .before .before .before .before .second .given .1)) in
-    let l = size-is (s .args .filler .now) u is′ in
-    (omega arith, record { term = t; here = is-at is; deep = omega arith; filler = u; lends = is′; short = omega arith })
+    let b = body (first (second c)) in
+    let f = filler (second c) in
+    let h = is-at (b .is) in
+    (omega arith, record { term = b .term; here = h; deep = omega (arith, b .count); filler = f .term; lends = f .is; short = omega (arith, f .words) })
 
 enum-known-done : tie.Need-enum-known-done
 enum-known-done c = search needs
@@ -72,11 +96,12 @@ same-length-2 c = search needs
 
 returns-6 : tie.Need-returns-6
 returns-6 c =
-    let s = c .before .before .before .before .before .before .before .before .before .before .before .before .before .before .before .before .before .before .before .before in
-    let (t, e, is, n) = whole-term (s .args .body .now) _ (sym (c .before .before .before .before .before .before .before .before .before .before .before .before .before .before .before .before .read-whole .ensures) ∙ ap parse-answer (c .before .before .before .before .before .before .before .before .before .before .before .before .before .before .first .given .1)) in
-    let (u, e′, is′, m) = whole-term (s .args .filler .now) _ (sym (c .before .before .before .before .before .before .before .before .before .before .before .before .read-whole2 .ensures) ∙ ap parse-answer (c .before .before .before .before .before .before .before .before .before .before .second .given .1)) in
-    let was = done-is t (fillAt 0 u t) 0 0 _ (c .before .before .before .before .before .fill-into .ensures t u (is-at is) is′ .answer) _ _ (c .before .done .given .1) in
-    let k = c .before .before .before .before .before .fill-into .kept .1 .1 .1 .1 .0 in
+    let w = c .before .before .before .before .before in
+    let b = body (first (second (w .before))) in
+    let f = filler (second (w .before)) in
+    let answer = w .fill-into .ensures (b .term) (f .term) (is-at (b .is)) (f .is) .answer in
+    let was = done-is (b .term) (fillAt 0 (f .term) (b .term)) 0 0 _ answer _ _ (c .before .done .given .1) in
+    let k = w .fill-into .kept .1 .1 .1 .1 .0 in
     counts _ _ (omega (arith, was .fits))
 
 pub filled-spec : {M : Type 1} → statement M

@@ -1,14 +1,13 @@
-use Rattle.words.specs.Parsing.{parse-answer}
-use Rattle.words.proofs.Parses.{whole-term}
-use Rattle.words.proofs.Places.{is-at}
-use mathlib.Core.Path.{sym, ap, _∙_}
+-- Behind the test the words are one term, whose nesting is asked for.
 use borrow.Author.Needs.{needs}
+use Rattle.words.proofs.Places.{is-at}
+use Rattle.words_run.proofs.Tested.{holds}
 use Rattle.words_run.proofs.nested_whole.Statement.{statement}
 use Rattle.words_run.proofs.nested_whole.Tie as tie
-use Rattle.words_run.proofs.nested_whole.Reads as reads
-use Rattle.words_run.proofs.nested_whole.Lts as lts
-use Rattle.words.proofs.nesting.nested.Reads as nested-reads
-use Rattle.words.proofs.read.read_whole.Reads as read-whole-reads
+
+-- from the answer that the words are a term back to the start
+abbrev start : tie.After-read → tie.Start
+start c = c .before .before .before .before
 
 read-whole-requires : tie.Need-read-whole-requires
 read-whole-requires c κs = search needs
@@ -24,9 +23,9 @@ returns c = search needs
 
 nested-requires : tie.Need-nested-requires
 nested-requires c κs =
-    let s = c .before .before .before .before .before in
-    let (t, e, is, n) = whole-term (s .args .words .now) _ (sym (c .before .before .before .read-whole .ensures) ∙ ap parse-answer (c .before .read .given .1)) in
-    record { term = t; here = is-at is }
+    let r = c .before in
+    let h = holds (start r .args .words .now) _ (r .before .before .read-whole .ensures) (r .read .given .1) in
+    record { term = h .term; here = is-at (h .is) }
 
 returns-2 : tie.Need-returns-2
 returns-2 c = search needs

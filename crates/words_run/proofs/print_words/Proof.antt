@@ -1,13 +1,10 @@
+-- A loop over the words. The invariant: i is at most their number. The measure: the words left.
 use Prim.Native.Nat.{_-_, _≤_}
 use lib.ListN.{length}
 use borrow.Author.Needs.{needs}
 use native.Mathlib.Omega.{arith}
 use Rattle.words_run.proofs.print_words.Statement.{statement}
 use Rattle.words_run.proofs.print_words.Tie as tie
-use Rattle.words_run.proofs.print_words.Reads as reads
-use Rattle.words_run.proofs.print_words.Lts as lts
-use Rattle.io.proofs.print_hex.Reads as print-hex-reads
-use Rattle.io.proofs.write_all.Reads as write-all-reads
 
 abbrev Inv-loop : tie.InvT-loop
 Inv-loop words i₀ t3 i = i ≤ length words
