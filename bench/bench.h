@@ -1,4 +1,4 @@
-// What the benchmarks share: the clock, and calls that have to succeed.
+// What the benchmarks share: the clock, the least of the rounds, and calls that have to succeed.
 #ifndef AURA0_BENCH_H
 #define AURA0_BENCH_H
 
@@ -7,14 +7,22 @@
 #include <time.h>
 #include "../host/sample.h"
 
-static double now(void)
+enum { ROUNDS = 5 };
+
+static inline double now(void)
 {
     struct timespec t;
     clock_gettime(CLOCK_MONOTONIC, &t);
     return t.tv_sec * 1e9 + t.tv_nsec;
 }
 
-static void want(uint64_t answer)
+// `best` is 0 before the first round
+static inline double least(double best, double time)
+{
+    return best == 0 || time < best ? time : best;
+}
+
+static inline void want(uint64_t answer)
 {
     if (answer != 0) {
         printf("refused: %u at %u\n", aura0_number(answer), aura0_place(answer));

@@ -1,4 +1,5 @@
-// The words of terms, and document 01's sample: its signature, the desk's rule r and the proof p. For the C programs of host/ and bench/.
+// The words of terms, and document 01's sample: its signature, the desk's rule r, what a3 says and the proof p.
+// For the C programs of host/, bench/ and tests/.
 #ifndef AURA0_SAMPLE_H
 #define AURA0_SAMPLE_H
 
@@ -12,6 +13,7 @@
 #define C(n) WORD(6, n)
 #define SAYS WORD(7, 0)
 #define PI WORD(8, 0)
+#define LAM WORD(9, 0)
 #define APP WORD(10, 0)
 #define TEXT(n) WORD(11, n)
 #define NAME(n) WORD(12, n)
@@ -24,7 +26,8 @@
 #define LIST(list) list, WORDS(list)
 
 // C0 = Pi S P, C1 = Pi S Pi S P, C2 = Pi S P, C3 = Pi App C2 s7 P; one operation
-static const uint32_t signature[] = { 3, PI, S, P, 5, PI, S, PI, S, P, 3, PI, S, P, 5, PI, APP, C(2), TEXT(7), P };
+#define CONSTANTS 3, PI, S, P, 5, PI, S, PI, S, P, 3, PI, S, P, 5, PI, APP, C(2), TEXT(7), P
+static const uint32_t signature[] = { CONSTANTS };
 enum { OPERATIONS = 1 };
 
 // the desk's rule, what r signs: Pi S Pi N Pi Says V0 App C2 V1 App C0 V2
@@ -34,5 +37,10 @@ static const uint32_t rules[] = { 0, 13, RULE };
 // what a3 says of the extract k, App C2 sk, and for 7 the proof p = Bind r Ret a0 App App App V0 s7 a3 Sign3 App C2 s7
 #define OPENED(k) APP, C(2), TEXT(k)
 #define PROOF(k) BIND, SIGN(0), RULE, RET, NAME(0), APP, APP, APP, V(0), TEXT(k), NAME(3), SIGN(3), OPENED(k)
+static const uint32_t proposition[] = { OPENED(7) };
+static const uint32_t proof[] = { PROOF(7) };
+
+// the least workspace
+static uint32_t workspace[12288];
 
 #endif

@@ -2,11 +2,6 @@
 #include <stdio.h>
 #include "sample.h"
 
-static const uint32_t proposition[] = { OPENED(7) };
-static const uint32_t proof[] = { PROOF(7) };
-
-static uint32_t workspace[12288];
-
 static void print(const char *call, uint64_t answer)
 {
     printf("%s: %u at %u\n", call, aura0_number(answer), aura0_place(answer));
@@ -24,19 +19,22 @@ static void fill(uint32_t *words, size_t length)
     printf("words used %u\n", words[0]);
 }
 
-// The same request by the extract desk: a list of three homes, of which one has a survey, and an output of two words a home.
+// The same request by the extract desk: a list of three homes, of which one has a survey, and an output of two words
+// a home.
 static void extract(uint32_t *words, size_t length, size_t output_words)
 {
     static const uint32_t homes[] = { 11, 12, 15 }, surveys[] = { 12, 4, 14, 9 };
     uint32_t output[6] = { 0 };
-    print("extract", aura0_extract(LIST(signature), OPERATIONS, words, length, 0, 7, 9, LIST(proof), LIST(homes), LIST(surveys), output, output_words, LIST(workspace)));
+    print("extract", aura0_extract(LIST(signature), OPERATIONS, words, length, 0, 7, 9, LIST(proof),
+                                   LIST(homes), LIST(surveys), output, output_words, LIST(workspace)));
     printf("words used %u, homes", words[0]);
     for (size_t i = 0; i < 6; i += 2)
         printf(" %u,%u", output[i], output[i + 1]);
     printf("\n");
 }
 
-// The records as the listing program prints them. A grant's body is operation, extract, delivery and proof; its principal is 0.
+// The records as the listing program prints them. A grant's body is operation, extract, delivery and proof; its
+// principal is 0.
 static void list(const uint32_t *words, size_t length)
 {
     static const char *const kinds[] = { "", "rule", "say", "grant", "receipt" };
@@ -63,10 +61,10 @@ int main(void)
     size_t type_words;
 
     fill(words, 64);
-    print("say again", aura0_say(LIST(signature), OPERATIONS, words, 64, 3, LIST(proposition), LIST(workspace), &added));
+    print("say again", aura0_say(LIST(signature), OPERATIONS, LIST(words), 3, LIST(proposition), LIST(workspace), &added));
     printf("added %u\n", added);
-    print("check p", aura0_check(LIST(signature), OPERATIONS, words, 64, LIST(proof), LIST(workspace)));
-    print("check p", aura0_check_type(LIST(signature), OPERATIONS, words, 64, LIST(proof), LIST(workspace), &type_words));
+    print("check p", aura0_check(LIST(signature), OPERATIONS, LIST(words), LIST(proof), LIST(workspace)));
+    print("check p", aura0_check_type(LIST(signature), OPERATIONS, LIST(words), LIST(proof), LIST(workspace), &type_words));
     printf("type");
     for (size_t i = 0; i < type_words; i++)
         printf(" %08x", workspace[i]);
