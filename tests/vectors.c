@@ -1,8 +1,9 @@
-// Runs scripts of tests/vectors (PROTOCOL.md there) against the static library: vectors LISTING FILE..
-// Prints a line a file, and each wrong answer with its file and line; the exit status is 1 where an answer was wrong, or where a file has
-// no answer of this level, so that nothing was compared.
-// After each call it also compares what was lent with what it was before: the signature and the term, the register where it may not
-// change, the register's words past the used count, an output's words past the last home, and the words behind each buffer.
+// vectors LISTING FILE..: runs scripts of tests/vectors (PROTOCOL.md there) against the static library.
+// Makes the calls of the level in force and passes over those of another. Prints a line a file that counts both, and
+// each wrong answer with its file and line. The exit status is 1 where an answer was wrong or a file compared none.
+// After each call it also compares what was lent with what it was before: the signature and the term, the register
+// where it may not change, the register's words past the used count, an output's words past the last home, and the
+// words behind each buffer.
 #define _POSIX_C_SOURCE 200809L
 #include <stdarg.h>
 #include <stdio.h>
@@ -11,6 +12,7 @@
 #include <unistd.h>
 #include "../include/aura0.h"
 
+// the requests of document 02 in force: 1 to LEVEL
 enum { LEVEL = 3, MOST = 1 << 21, GUARD = 16, PATTERN = 0x5a5a5a5a };
 
 // a lent list of words, with a guard behind it, and what it held before the call
@@ -25,7 +27,15 @@ static unsigned long level;
 static const char *listing;
 
 static const char *file;
-static size_t line_number, answers, wrong, skipped;
+static size_t line_number;
+// of a file, or of all: scripts with a call of the level in force, answers compared, wrong ones; scripts whose calls are
+// all of another level, and answers of another level
+struct count {
+    size_t scripts, answers, wrong, scripts_passed, answers_passed;
+};
+static struct count count;
+// the calls of the script so far: made, and passed over
+static size_t made, passed;
 // the answer lines of the last call, and those that no answer line was compared with yet
 static char *answer;
 static const char *expected_next;
@@ -39,7 +49,7 @@ static void stop(const char *why)
 
 static void wrong_answer(const char *expected, const char *got, size_t got_length)
 {
-    wrong++;
+    count.wrong++;
     printf("%s:%zu: wrong: expected \"%s\", got \"%.*s\"\n", file, line_number, expected, (int)got_length, got);
 }
 
@@ -134,7 +144,7 @@ static void keep(struct lent *list)
 static void same_from(const struct lent *list, size_t start, const char *what)
 {
     if (memcmp(list->words + start, list->before + start, (list->length + GUARD - start) * sizeof(uint32_t)) != 0) {
-        wrong++;
+        count.wrong++;
         printf("%s:%zu: wrong: the %s changed\n", file, line_number, what);
     }
 }
@@ -162,35 +172,54 @@ static void take_back(int writes)
 }
 
 #define LENT(list) (list).words, (list).length
+// what every call but a read is lent first
+#define STATE LENT(signature), n, LENT(reg)
+
+// what a request and an extract ask for
+struct ask {
+    uint32_t operation, extract, delivery;
+};
+#define ASKED(ask) (ask).operation, (ask).extract, (ask).delivery
+
+static struct ask read_ask(const char **rest)
+{
+    struct ask ask;
+    ask.operation = read_number(rest, UINT32_MAX);
+    ask.extract = read_number(rest, UINT32_MAX);
+    ask.delivery = read_number(rest, UINT32_MAX);
+    return ask;
+}
 
 // makes the call of a line, and puts its answer; whether the line was one
 static int call(const char *line)
 {
     const char *rest;
+    // the last call's answer goes, also where this one puts none
     answer_length = 0;
+    put("");
     if ((rest = after(line, "open")) != NULL) {
         size_t words = read_number(&rest, MOST);
         lend(words, rest);
-        uint64_t code = aura0_open(LENT(signature), n, LENT(reg), LENT(term), LENT(workspace));
+        uint64_t code = aura0_open(STATE, LENT(term), LENT(workspace));
         take_back(code == 0);
         put("open %u %u", aura0_number(code), aura0_place(code));
     } else if ((rest = after(line, "say")) != NULL) {
         size_t words = read_number(&rest, MOST);
         uint32_t principal = read_number(&rest, UINT32_MAX), added = PATTERN;
         lend(words, rest);
-        uint64_t code = aura0_say(LENT(signature), n, LENT(reg), principal, LENT(term), LENT(workspace), &added);
+        uint64_t code = aura0_say(STATE, principal, LENT(term), LENT(workspace), &added);
         take_back(code == 0 && added == 1);
         put("say %u %u %u", aura0_number(code), aura0_place(code), added);
     } else if ((rest = after(line, "request")) != NULL) {
         size_t words = read_number(&rest, MOST);
-        uint32_t operation = read_number(&rest, UINT32_MAX), extract = read_number(&rest, UINT32_MAX), delivery = read_number(&rest, UINT32_MAX);
+        struct ask ask = read_ask(&rest);
         lend(words, rest);
-        uint64_t code = aura0_request(LENT(signature), n, LENT(reg), operation, extract, delivery, LENT(term), LENT(workspace));
+        uint64_t code = aura0_request(STATE, ASKED(ask), LENT(term), LENT(workspace));
         take_back(code == 0);
         put("request %u %u", aura0_number(code), aura0_place(code));
     } else if ((rest = after(line, "extract")) != NULL) {
         size_t words = read_number(&rest, MOST);
-        uint32_t operation = read_number(&rest, UINT32_MAX), extract = read_number(&rest, UINT32_MAX), delivery = read_number(&rest, UINT32_MAX);
+        struct ask ask = read_ask(&rest);
         fill(&output, read_number(&rest, MOST), PATTERN);
         rest = read_words(&homes, behind_bar(rest));
         rest = read_words(&surveys, behind_bar(rest));
@@ -198,7 +227,7 @@ static int call(const char *line)
         keep(&surveys);
         keep(&output);
         lend(words, behind_bar(rest));
-        uint64_t code = aura0_extract(LENT(signature), n, LENT(reg), operation, extract, delivery, LENT(term), LENT(homes), LENT(surveys), LENT(output), LENT(workspace));
+        uint64_t code = aura0_extract(STATE, ASKED(ask), LENT(term), LENT(homes), LENT(surveys), LENT(output), LENT(workspace));
         take_back(code == 0);
         same_from(&homes, 0, "list of homes");
         same_from(&surveys, 0, "table of surveys");
@@ -211,10 +240,10 @@ static int call(const char *line)
     } else if ((rest = after(line, "check")) != NULL) {
         size_t words = read_number(&rest, MOST), type_words = PATTERN;
         lend(words, rest);
-        uint64_t without = aura0_check(LENT(signature), n, LENT(reg), LENT(term), LENT(workspace));
+        uint64_t without = aura0_check(STATE, LENT(term), LENT(workspace));
         take_back(0);
         lend(words, rest);
-        uint64_t code = aura0_check_type(LENT(signature), n, LENT(reg), LENT(term), LENT(workspace), &type_words);
+        uint64_t code = aura0_check_type(STATE, LENT(term), LENT(workspace), &type_words);
         take_back(0);
         if (code != without)
             wrong_answer("the same answer with and without the type", "two answers", 11);
@@ -264,11 +293,22 @@ static int call(const char *line)
     return 1;
 }
 
+// the end of a script
+static void end_script(void)
+{
+    if (made > 0)
+        count.scripts++;
+    else if (passed > 0)
+        count.scripts_passed++;
+    made = passed = 0;
+}
+
 // a line that sets the state; whether it was one
 static int set(const char *line)
 {
     const char *rest;
     if (after(line, "new") != NULL) {
+        end_script();
         signature.length = reg.length = 0;
         n = 0;
         level = 0;
@@ -290,7 +330,7 @@ static int set(const char *line)
 // an answer line, against the next line of the last call's answer
 static void compare(const char *expected)
 {
-    answers++;
+    count.answers++;
     size_t length = expected_next == NULL ? 0 : strcspn(expected_next, "\n");
     if (expected_next == NULL || strlen(expected) != length || strncmp(expected, expected_next, length) != 0)
         wrong_answer(expected, expected_next == NULL ? "" : expected_next, length);
@@ -306,14 +346,16 @@ static void all_compared(void)
     expected_next = NULL;
 }
 
-static void run(FILE *in)
+static void run(void)
 {
+    FILE *in = fopen(file, "r");
     char *line = NULL;
     size_t room = 0;
-    ssize_t length;
-    answers = wrong = skipped = line_number = 0;
+    line_number = 0;
+    if (in == NULL)
+        stop("cannot be read");
     set("new");
-    while ((length = getline(&line, &room, in)) >= 0) {
+    while (getline(&line, &room, in) >= 0) {
         line_number++;
         line[strcspn(line, "\r\n")] = 0;
         if (line[0] == 0 || line[0] == '#')
@@ -322,43 +364,66 @@ static void run(FILE *in)
             if (level == LEVEL)
                 compare(line + 2);
             else
-                skipped++;
+                count.answers_passed++;
             continue;
         }
         all_compared();
-        if (set(line) || level != LEVEL)
+        if (set(line))
             continue;
+        if (level != LEVEL) {
+            passed++;
+            continue;
+        }
         if (!call(line))
             stop("not a line of a script");
+        made++;
         expected_next = answer;
     }
+    if (ferror(in))
+        stop("cannot be read to its end");
     all_compared();
+    end_script();
     free(line);
+    fclose(in);
 }
 
-int main(int count, char **arguments)
+static void print_count(void)
+{
+    printf("%zu scripts, %zu answers, %zu wrong", count.scripts, count.answers, count.wrong);
+    if (count.answers_passed > 0)
+        printf("; passed over, not of level %d: %zu scripts, %zu answers", LEVEL, count.scripts_passed, count.answers_passed);
+}
+
+int main(int arguments, char **argument)
 {
     int status = 0;
-    if (count < 3) {
+    struct count all = { 0 };
+    if (arguments < 3) {
         fprintf(stderr, "vectors LISTING FILE..\n");
         return 2;
     }
-    listing = arguments[1];
-    for (int i = 2; i < count; i++) {
-        file = arguments[i];
-        FILE *in = fopen(file, "r");
-        if (in == NULL)
-            stop("cannot be read");
-        run(in);
-        fclose(in);
-        printf("%s: %zu answers, %zu wrong", file, answers, wrong);
-        if (skipped > 0)
-            printf(", %zu skipped: they are of another level", skipped);
-        if (answers == 0)
-            printf(": wrong: nothing was compared");
+    listing = argument[1];
+    for (int i = 2; i < arguments; i++) {
+        count = (struct count){ 0 };
+        file = argument[i];
+        run();
+        printf("%s: ", file);
+        print_count();
+        // a file that compares nothing is no test
+        if (count.answers == 0)
+            printf(": FAILS: %s", count.scripts_passed > 0 ? "every script is of another level" : "it has no answer to compare");
         printf("\n");
-        if (wrong > 0 || answers == 0)
+        if (count.wrong > 0 || count.answers == 0)
             status = 1;
+        all.scripts += count.scripts;
+        all.answers += count.answers;
+        all.wrong += count.wrong;
+        all.scripts_passed += count.scripts_passed;
+        all.answers_passed += count.answers_passed;
     }
+    count = all;
+    printf("%d files: ", arguments - 2);
+    print_count();
+    printf("\n");
     return status;
 }
