@@ -1,9 +1,11 @@
-// The calls of the permission register for programs in C. The library is target/staticlib/libhost.a, which `rt staticlib host` builds.
+// The calls of the permission register for programs in C. The library is target/staticlib/libhost.a;
+// `bash host/run` builds it.
 //
-// Each list of 32-bit words is lent as a pointer and a number of words; the pointer is not null, also where the number is 0.
-// Buffers that are written must not overlap any other buffer of the call.
-// An answer is 0 for success, else the refusal's number times 4294967296 plus its place (0 where none is named). A refusal leaves the
-// register as it was. The workspace needs at least 12,288 words, and what it holds after a call is free, except for a type handed back.
+// Each list of 32-bit words is lent as a pointer and a number of words; the pointer is not null, also where the
+// number is 0. Buffers that are written must not overlap any other buffer of the call.
+// An answer is 0 for success, else the refusal's number times 4294967296 plus its place (0 where none is named).
+// A refusal leaves the register as it was. The workspace needs at least 12,288 words, and what it holds after a call
+// is free, except for a type handed back.
 #ifndef AURA0_H
 #define AURA0_H
 
@@ -14,13 +16,15 @@
 extern "C" {
 #endif
 
-// Document 01's refusal numbers, in the order of its table: "Tests run in this order". Beside 11 stand 18 to 20 of document 02, slip 2, "each met where 11 was".
+// Document 01's refusal numbers, in the order of its table: "Tests run in this order". Beside 11 stand 18 to 20 of
+// document 02, slip 2, "each met where 11 was".
 enum {
     AURA0_WORKSPACE_SHORT = 1,      // workspace short
     AURA0_REGISTER_LENGTH = 2,      // register length
     AURA0_REGISTER_BROKEN = 3,      // register broken
     AURA0_BAD_SIGNATURE = 4,        // signature; place: first bad constant's length word
-    AURA0_BAD_NUMBER = 5,           // n, operation, principal, extract or delivery out of range, or a permit or receipt type wrong or missing
+    AURA0_BAD_NUMBER = 5,           // n, operation, principal, extract or delivery out of range, or a permit or receipt
+                                    // type wrong or missing
     AURA0_DESK_SAYS = 15,           // say by principal 0
     AURA0_TERM_LENGTH = 6,          // term empty or too long
     AURA0_MALFORMED = 7,            // malformed; place: first bad word, or the term's length
@@ -43,6 +47,11 @@ enum {
 // What stands for the code of a home without a survey.
 #define AURA0_NO_SURVEY UINT32_C(4294967295)
 
+// A call takes less stack than this, in bytes; the frames of its caller are the host's own and come on top. No proof
+// speaks of the stack: tests/stack.c measures it. The deepest is the reading of 2,048 words App, each within the one
+// before.
+#define AURA0_STACK 262144
+
 // The kinds of records.
 enum { AURA0_RULE = 1, AURA0_SAY = 2, AURA0_GRANT = 3, AURA0_RECEIPT = 4 };
 
@@ -50,7 +59,8 @@ enum { AURA0_RULE = 1, AURA0_SAY = 2, AURA0_GRANT = 3, AURA0_RECEIPT = 4 };
 static inline uint32_t aura0_number(uint64_t answer) { return (uint32_t)(answer >> 32); }
 static inline uint32_t aura0_place(uint64_t answer) { return (uint32_t)answer; }
 
-// Writes the register anew with the rules of a rule list, each a principal, a length and a proposition; a refusal of a rule is at its principal's index.
+// Writes the register anew with the rules of a rule list, each a principal, a length and a proposition; a refusal of a
+// rule is at its principal's index.
 uint64_t aura0_open(const uint32_t *signature, size_t signature_words, uint32_t n, uint32_t *register_, size_t register_words,
                     const uint32_t *rules, size_t rules_words, uint32_t *workspace, size_t workspace_words);
 
@@ -64,10 +74,11 @@ uint64_t aura0_request(const uint32_t *signature, size_t signature_words, uint32
                        uint32_t operation, uint32_t extract, uint32_t delivery, const uint32_t *proof, size_t proof_words,
                        uint32_t *workspace, size_t workspace_words);
 
-// The extract desk. The list has at most 1,024 homes, strictly rising. The table has rows of a home and a code, flat, at most
-// 4,096, its homes strictly rising and no code AURA0_NO_SURVEY. The output has at least two words a home. Anything else is 21
-// at 0, before the request is tried. Then makes the request, and where it is granted writes each home of the list, in its
-// order, with its code or AURA0_NO_SURVEY at the front of the output. A refusal leaves register and output as they were.
+// The extract desk. The list has at most 1,024 homes, strictly rising. The table has rows of a home and a code, flat,
+// at most 4,096, its homes strictly rising and no code AURA0_NO_SURVEY. The output has at least two words a home.
+// Anything else is 21 at 0, before the request is tried. Then makes the request, and where it is granted writes each
+// home of the list, in its order, with its code or AURA0_NO_SURVEY at the front of the output. A refusal leaves
+// register and output as they were.
 uint64_t aura0_extract(const uint32_t *signature, size_t signature_words, uint32_t n, uint32_t *register_, size_t register_words,
                        uint32_t operation, uint32_t extract, uint32_t delivery, const uint32_t *proof, size_t proof_words,
                        const uint32_t *homes, size_t homes_words, const uint32_t *surveys, size_t surveys_words,
@@ -81,7 +92,8 @@ uint64_t aura0_check(const uint32_t *signature, size_t signature_words, uint32_t
 uint64_t aura0_check_type(const uint32_t *signature, size_t signature_words, uint32_t n, const uint32_t *register_, size_t register_words,
                           const uint32_t *term, size_t term_words, uint32_t *workspace, size_t workspace_words, size_t *type_words);
 
-// Reads a record: its kind, and its body as the *words words of the register from *start on; all three are 0 where refused.
+// Reads a record: its kind, and its body as the *words words of the register from *start on; all three are 0 where
+// refused.
 uint64_t aura0_read(const uint32_t *register_, size_t register_words, size_t record, uint32_t *kind, size_t *start, size_t *words);
 
 #ifdef __cplusplus
