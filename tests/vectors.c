@@ -28,8 +28,8 @@ static const char *listing;
 
 static const char *file;
 static size_t line_number;
-// of a file, or of all: scripts with a call of the level in force, answers compared, wrong ones; scripts whose calls are
-// all of another level, and answers of another level
+// of a file, or of all: scripts with a call of the level in force, answers compared, wrong ones; scripts whose calls
+// are all of another level, and answers of another level
 struct count {
     size_t scripts, answers, wrong, scripts_passed, answers_passed;
 };
