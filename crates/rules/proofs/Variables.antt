@@ -23,7 +23,7 @@ use Rattle.words.specs.Place.{At, Is, written}
 use Rattle.words.specs.Lookup.{partOf}
 use Rattle.moves.specs.Shift.{Shifted}
 use Rattle.words.proofs.Lists.{written-front}
-use Rattle.words.proofs.Places.{is-at, part-is}
+use Rattle.words.proofs.Places.{part-is}
 use Rattle.moves.proofs.Shifts.{size-shift, length-shift}
 use Rattle.rules.specs.Rule.{variable-type}
 use Rattle.rules.specs.Scope.{tail, scope-words, entry-head}
@@ -139,9 +139,9 @@ module _ {proof ws : List ℕ} {kept n : ℕ} {Γ : List Term} (at : ℕ) (e : E
 
 -- the raised type's words were written at the front
 pub raised-front : {z : ℤ} {ws part zeros raised new : List ℕ} {n w : ℕ} (at : ℕ) (A : Term) → size A ≤ most-type-words → z ≡ pos (suc n) → Is part A
-    → ((t : Term) → At part 0 t → Shifted t 0 z zeros 0 raised w) → new ≡ written ws 0 (take w raised) → PlainType (raise (suc n) A) → Formed (ok (raise (suc n) A)) (at + 1) ws new (Typed w (at + 1))
+    → ((t : Term) → Is part t → Shifted t 0 z zeros 0 raised w) → new ≡ written ws 0 (take w raised) → PlainType (raise (suc n) A) → Formed (ok (raise (suc n) A)) (at + 1) ws new (Typed w (at + 1))
 raised-front {z} {ws} {part} {zeros} {raised} {new} {n} {w} at A l y i f c h =
-    let s = f A (is-at i) in
+    let s = f A i in
     let r : size (raise (suc n) A) ≡ size A = size-shift 0 (pos (suc n)) A in
     writes (ok (raise (suc n) A)) (raise (suc n) A) w (at + 1) ws ws new refl (s .count ∙ sym r) (omega arith) h refl
     (c ∙ ap (written ws 0) (written-front zeros raised (encode (shift 0 z A)) w (s .words) (s .count ∙ sym (length-shift 0 z A)) ∙ ap (λ (v : ℤ). encode (shift 0 v A)) y))

@@ -3,18 +3,16 @@ use Prim.Native.Nat.{ℕ, suc, _+_, _≤_}
 use native.Mathlib.Omega.{arith}
 use native.Mathlib.Numerals.{add-one}
 use mathlib.Core.Path.{_≡_, ap, subst, sym, _∙_}
-use mathlib.Core.List.{List, [], append-nil}
-use lib.IntN.{ℤ, pos, _+ℤ_}
+use mathlib.Core.List.{List}
+use lib.IntN.{pos, _+ℤ_}
 use mir.Syntax.{w32}
 use mir.Val.{toZ, ofZ}
 use borrow.Author.Needs.{needs}
 use Rattle.logic.specs.Limits.{most-type-words}
-use Rattle.logic.specs.Term.{Term, encode, size}
-use Rattle.logic.proofs.Words.{plain-in-range, prefix-free}
-use Rattle.words.specs.Place.{At, Is}
+use Rattle.logic.specs.Term.{Term, size}
+use Rattle.words.specs.Place.{Is}
 use Rattle.words.specs.Lookup.{partOf}
 use Rattle.words.proofs.Places.{size-is}
-use Rattle.moves.specs.Shift.{Shifted}
 use Rattle.rules.proofs.Variables.{amount-fits, amount-is, amount-near, picked-length, raised-front}
 use Rattle.rules.proofs.scope.raised.Statement.{statement}
 use Rattle.rules.proofs.scope.raised.Tie as tie
@@ -51,13 +49,6 @@ short s A i =
     let a = size-is _ A i in
     let b = size-is _ (p .type) (p .part) in
     omega (arith, p .type-words, p .small)
-
--- what stands first in the words of A is A
-first-shifted : {ws old new : List ℕ} {z : ℤ} {r : ℕ} {A : Term} → Is ws A → Shifted A 0 z old 0 new r → (t : Term) → At ws 0 t → Shifted t 0 z old 0 new r
-first-shifted {ws} {old} {new} {z} {r} {A} i s t h =
-    let e = append-nil (encode A) ∙ sym (i .words) ∙ h .words in
-    let same : A ≡ t = prefix-free A t [] (h .rest) (plain-in-range A (i .plain)) (plain-in-range t (h .plain)) e .0 in
-    subst (λ (u : Term). Shifted u 0 z old 0 new r) same s
 
 -- ---- the needs
 
@@ -114,8 +105,7 @@ returns c =
     let w = shifted (copy .before) in
     let d = looked-up w in
     let s = start d in
-    λ A i h. let j = part d A i in
-    raised-front (s .args .at) A (short s A i) (amount s) j (first-shifted j (w .shift-into .ensures A j)) (copy .copy .ensures) h
+    λ A i h. raised-front (s .args .at) A (short s A i) (amount s) (part d A i) (w .shift-into .ensures) (copy .copy .ensures) h
 
 pub raised-spec : {M : Type 1} → statement M
 raised-spec =
