@@ -3,7 +3,7 @@ use Prim.Native.Nat.{ℕ, _+_, _-_, _≤_, _<_}
 use native.Mathlib.Omega.{arith}
 use mathlib.Core.Path.{_≡_, sym, ap, _∙_}
 use mathlib.Core.Bool.{Bool, true, false, not}
-use mathlib.Core.List.{List, [], _∷_}
+use mathlib.Core.List.{List}
 use lib.Dec.{leb, eqb}
 use lib.ListN.{length}
 use borrow.Author.Tests.{le-leb, lt-leb, le-ltb, lt-ltb, eq-eqb, ne-eqb}
@@ -23,13 +23,13 @@ use Rattle.typing.proofs.Verdicts.{fault-told, passed-told}
 use Rattle.records.specs.Answers.{Room, unheld-answer}
 use Rattle.records.specs.declared.search.Unheld.{Unheld}
 use Rattle.records.specs.declared.search.Unheld.the-variants.{Nowhere, At}
-use Rattle.records.proofs.Adds.{statement-words, room}
-use Rattle.register.specs.Records.{Record, used, held, words-of, appended, statement, statement-extra, say-kind}
-use Rattle.register.specs.Calls.{Lent, signs-held, view, stated-own, say-own, say-call, after-say}
+use Rattle.records.proofs.Adds.{statement-length, room}
+use Rattle.register.specs.Records.{Record, Statement, used, held, words-of, appended, statement-extra, say-kind}
+use Rattle.register.specs.Calls.{Lent, signs-held, view, outline-of, say-entry, stated-own, say-own, say-call, after-say}
 use Rattle.register.specs.Succeeds.{Adds, added-now}
 use Rattle.register.proofs.Succeeds.{demand2}
 use Rattle.register.proofs.Words.{unbroken-right}
-use Rattle.calls.specs.Shared.{prepared, Prepared-as}
+use Rattle.calls.specs.Shared.{Prepared-as}
 use Rattle.calls.specs.declared.shared.Ready.{Ready}
 use Rattle.calls.specs.declared.shared.Ready.the-variants.{Fault as Unready}
 use Rattle.calls.proofs.Checks.{Passed-so, not-prepared}
@@ -37,103 +37,101 @@ use Rattle.say.specs.Said.{said-answer, Says-so}
 use Rattle.say.specs.declared.Said.{Said}
 use Rattle.say.specs.declared.Said.the-variants.{Added, Held, Fault}
 
-statement-length : (a : ℕ) (q : List ℕ) → length (words-of (statement say-kind a q ∷ [])) ≡ length q + statement-extra
-statement-length a q = omega (arith, ap length (statement-words say-kind a q))
-
 -- ---- tests 14 and 16, and whether the statement is held
 
 abbrev in-turn : Result (Unit {0}) → Bool → Bool → Result Bool
 in-turn s h b = s >> pick h (ok false) (require b register-full 0 >> ok true)
 
-module _ (l : Lent) (Σ : List Term) (rs : List Record) (reg : List ℕ) (a : ℕ) (ws : List ℕ) (q : Term) (x : Unheld) (e : unheld-answer x ≡ signs-held (held rs) q) where
+module _ (l : Lent) (Σ : List Term) (rs : List Record) (reg : List ℕ) (st : Statement) (q : Term) (x : Unheld) (e : unheld-answer x ≡ signs-held (held rs) q) where
   abbrev tests : Result Bool
-  tests = stated-own a ws q (view l (length reg) (used reg) rs Σ)
+  tests = stated-own st q (view l (outline-of reg) rs Σ)
 
   abbrev statement-fits : Bool
-  statement-fits = leb (used reg + length (words-of (statement say-kind a ws ∷ []))) (length reg)
+  statement-fits = leb (used reg + length (words-of (say-entry st))) (length reg)
 
   pub unheld : (place : ℕ) → x ≡ At place → refused not-held place ≡ tests
-  unheld place f = ap (λ s. in-turn s (held rs a ws) statement-fits) (sym (ap unheld-answer f) ∙ e)
+  unheld place f = ap (λ s. in-turn s (held rs (st .principal) (st .words)) statement-fits) (sym (ap unheld-answer f) ∙ e)
 
-  module _ (f : x ≡ Nowhere) (h : Bool) (g : h ≡ held rs a ws) where
+  module _ (f : x ≡ Nowhere) (h : Bool) (g : h ≡ held rs (st .principal) (st .words)) where
     signs-found : (b : Bool) → h ≡ b → tests ≡ pick b (ok false) (require statement-fits register-full 0 >> ok true)
-    signs-found b k = ap (λ s. in-turn s (held rs a ws) statement-fits) (sym e ∙ ap unheld-answer f) ∙ ap (λ (y : Bool). pick y (ok false) (require statement-fits register-full 0 >> ok true)) (sym g ∙ k)
+    signs-found b k = ap (λ s. in-turn s (held rs (st .principal) (st .words)) statement-fits) (sym e ∙ ap unheld-answer f) ∙ ap (λ (y : Bool). pick y (ok false) (require statement-fits register-full 0 >> ok true)) (sym g ∙ k)
 
     pub repeated : h ≡ true → ok false ≡ tests
     repeated k = sym (signs-found true k)
 
     module _ (k : h ≡ false) where
-      pub full : length reg - used reg < length ws + statement-extra → refused register-full 0 ≡ tests
-      full l = sym (signs-found false k ∙ ap (λ (b : Bool). require b register-full 0 >> ok true) (lt-leb (used reg + length (words-of (statement say-kind a ws ∷ []))) (length reg) (omega (arith, statement-length a ws))))
+      pub full : length reg - used reg < length (st .words) + statement-extra → refused register-full 0 ≡ tests
+      full l = sym (signs-found false k ∙ ap (λ (b : Bool). require b register-full 0 >> ok true) (lt-leb (used reg + length (words-of (say-entry st))) (length reg) (omega (arith, statement-length say-kind st))))
 
-      pub enough : used reg ≤ length reg → length ws + statement-extra ≤ length reg - used reg → ok true ≡ tests
-      enough w l = sym (signs-found false k ∙ ap (λ (b : Bool). require b register-full 0 >> ok true) (le-leb (used reg + length (words-of (statement say-kind a ws ∷ []))) (length reg) (omega (arith, statement-length a ws))))
+      pub enough : used reg ≤ length reg → length (st .words) + statement-extra ≤ length reg - used reg → ok true ≡ tests
+      enough w l = sym (signs-found false k ∙ ap (λ (b : Bool). require b register-full 0 >> ok true) (le-leb (used reg + length (words-of (say-entry st))) (length reg) (omega (arith, statement-length say-kind st))))
 
 -- ---- tests 6 to 12
 
 -- a statement that passes them
-pub record Statement-so (Σ : List Term) (a : ℕ) (ws : List ℕ) : Type 0 where
+pub record Statement-so (Σ : List Term) (st : Statement) : Type 0 where
   pub term : Term
-  pub is : check-statement Σ a ws ≡ ok term
-  pub term-is : Is ws term
-  pub short : length ws ≤ most-words
+  pub is : check-statement Σ (st .principal) (st .words) ≡ ok term
+  pub term-is : Is (st .words) term
+  pub short : length (st .words) ≤ most-words
 
-pub statement-so : (Σ : List Term) → Signature Σ → (a : ℕ) (ws : List ℕ) (r : Verdict) → verdict-answer r ≡ without-value (check-statement Σ a ws) → r ≡ Passed → Statement-so Σ a ws
-statement-so Σ sig a ws r e q =
-    let (t, f) = passed-told (check-statement Σ a ws) r e q in
-    let W = check-statement-right Σ sig ws a t .0 f .term in
+pub statement-so : (Σ : List Term) → Signature Σ → (st : Statement) (r : Verdict) → verdict-answer r ≡ without-value (check-statement Σ (st .principal) (st .words)) →
+    r ≡ Passed → Statement-so Σ st
+statement-so Σ sig st r e q =
+    let (t, f) = passed-told (check-statement Σ (st .principal) (st .words)) r e q in
+    let W = check-statement-right Σ sig (st .words) (st .principal) t .0 f .term in
     record { term = t; is = f; term-is = record { plain = W .plain; words = W .words }; short = omega (arith, W .not-more) }
 
 -- ---- all tests
 
-module _ (l : Lent) (reg table ws : List ℕ) (a : ℕ) (r : Ready) (P : Prepared-as l reg table r) where
-  pub say-not-prepared : (m place : ℕ) → r ≡ Unready m place → refused m place ≡ say-call l reg a ws
-  say-not-prepared m place q = sym (not-prepared l reg table r (say-own a ws) P m place q)
+module _ (l : Lent) (reg table : List ℕ) (st : Statement) (r : Ready) (P : Prepared-as l reg table r) where
+  pub say-not-prepared : (m place : ℕ) → r ≡ Unready m place → refused m place ≡ say-call l reg st
+  say-not-prepared m place q = sym (not-prepared l reg table r (say-own st) P m place q)
 
-  module _ (count : ℕ) (so : Passed-so l reg table r (say-own a ws) P count) where
+  module _ (count : ℕ) (so : Passed-so l reg table r (say-own st) P count) where
     abbrev behind : Result Term → Result Bool
-    behind x = x >>= λ q. stated-own a ws q (view l (length reg) (used reg) (so .rs) (so .Σ))
+    behind x = x >>= λ q. stated-own st q (view l (outline-of reg) (so .rs) (so .Σ))
 
     abbrev numbered : Bool → Bool → Result Bool
-    numbered b d = require b bad-number 0 >> (require (not d) desk-says 0 >> behind (check-statement (so .Σ) a ws))
+    numbered b d = require b bad-number 0 >> (require (not d) desk-says 0 >> behind (check-statement (so .Σ) (st .principal) (st .words)))
 
-    pub principal-over : payloads ≤ a → refused bad-number 0 ≡ say-call l reg a ws
-    principal-over h = sym (so .is ∙ ap (λ (b : Bool). numbered b (eqb a 0)) (le-ltb a payloads h))
+    pub principal-over : payloads ≤ st .principal → refused bad-number 0 ≡ say-call l reg st
+    principal-over h = sym (so .is ∙ ap (λ (b : Bool). numbered b (eqb (st .principal) 0)) (le-ltb (st .principal) payloads h))
 
-    module _ (h : a < payloads) where
-      pub by-desk : a ≡ 0 → refused desk-says 0 ≡ say-call l reg a ws
-      by-desk e = sym (so .is ∙ ap (λ (b : Bool). numbered b (eqb a 0)) (lt-ltb a payloads h) ∙ ap (numbered true) (eq-eqb a 0 e))
+    module _ (h : st .principal < payloads) where
+      pub by-desk : st .principal ≡ 0 → refused desk-says 0 ≡ say-call l reg st
+      by-desk e = sym (so .is ∙ ap (λ (b : Bool). numbered b (eqb (st .principal) 0)) (lt-ltb (st .principal) payloads h) ∙ ap (numbered true) (eq-eqb (st .principal) 0 e))
 
-      module _ (n : a ≡ 0 → ⊥) (d : Verdict) (e : verdict-answer d ≡ without-value (check-statement (so .Σ) a ws)) where
-        numbers-right : say-call l reg a ws ≡ behind (check-statement (so .Σ) a ws)
-        numbers-right = so .is ∙ ap (λ (b : Bool). numbered b (eqb a 0)) (lt-ltb a payloads h) ∙ ap (numbered true) (ne-eqb a 0 n)
+      module _ (n : st .principal ≡ 0 → ⊥) (d : Verdict) (e : verdict-answer d ≡ without-value (check-statement (so .Σ) (st .principal) (st .words))) where
+        numbers-right : say-call l reg st ≡ behind (check-statement (so .Σ) (st .principal) (st .words))
+        numbers-right = so .is ∙ ap (λ (b : Bool). numbered b (eqb (st .principal) 0)) (lt-ltb (st .principal) payloads h) ∙ ap (numbered true) (ne-eqb (st .principal) 0 n)
 
-        pub not-stated : (m place : ℕ) → d ≡ Refusal m place → refused m place ≡ say-call l reg a ws
-        not-stated m place q = sym (numbers-right ∙ ap behind (fault-told (check-statement (so .Σ) a ws) d m place e q))
+        pub not-stated : (m place : ℕ) → d ≡ Refusal m place → refused m place ≡ say-call l reg st
+        not-stated m place q = sym (numbers-right ∙ ap behind (fault-told (check-statement (so .Σ) (st .principal) (st .words)) d m place e q))
 
-        pub stated : (S : Statement-so (so .Σ) a ws) (x : Said) → said-answer x ≡ stated-own a ws (S .term) (view l (length reg) (used reg) (so .rs) (so .Σ)) → said-answer x ≡ say-call l reg a ws
+        pub stated : (S : Statement-so (so .Σ) st) (x : Said) → said-answer x ≡ stated-own st (S .term) (view l (outline-of reg) (so .rs) (so .Σ)) → said-answer x ≡ say-call l reg st
         stated S x g = g ∙ sym (numbers-right ∙ ap behind (S .is))
 
 -- ---- what a say leaves
 
-module _ (l : Lent) (reg ws : List ℕ) (a : ℕ) (r : Said) (e : said-answer r ≡ say-call l reg a ws) where
-  pub say-refused : (m place : ℕ) → r ≡ Fault m place → Says-so (say-call l reg a ws) reg a ws reg (Fault m place)
-  say-refused m place q = let h = sym (ap said-answer q) ∙ e in record { answer = h; register = ap (λ (o : Result Bool). after-say o reg a ws) h }
+module _ (l : Lent) (reg : List ℕ) (st : Statement) (r : Said) (e : said-answer r ≡ say-call l reg st) where
+  pub say-refused : (m place : ℕ) → r ≡ Fault m place → Says-so l reg st reg (Fault m place)
+  say-refused m place q = let h = sym (ap said-answer q) ∙ e in record { answer = h; register = ap (λ (o : Result Bool). after-say o reg st) h }
 
-  pub say-held : r ≡ Held → Says-so (say-call l reg a ws) reg a ws reg Held
-  say-held q = let h = sym (ap said-answer q) ∙ e in record { answer = h; register = ap (λ (o : Result Bool). after-say o reg a ws) h }
+  pub say-held : r ≡ Held → Says-so l reg st reg Held
+  say-held q = let h = sym (ap said-answer q) ∙ e in record { answer = h; register = ap (λ (o : Result Bool). after-say o reg st) h }
 
   module _ (q : r ≡ Added) where
-    added : say-call l reg a ws ≡ ok true
+    added : say-call l reg st ≡ ok true
     added = sym e ∙ ap said-answer q
 
-    pub say-room : Room reg (statement say-kind a ws ∷ [])
+    pub say-room : Room reg (say-entry st)
     say-room =
-        let S = demand2 .says l reg a ws true .0 added in
-        room reg (statement say-kind a ws ∷ []) (record { found = S .rs; reads = unbroken-right reg (S .rs) .1 (S .unbroken) }) (S .ready .not-longer) (fits-now (S .adds))
+        let S = demand2 .says l reg st true .0 added in
+        room reg (say-entry st) (record { found = S .rs; reads = unbroken-right reg (S .rs) .1 (S .unbroken) }) (S .ready .not-longer) (fits-now (S .adds))
       where
-        fits-now : {rs : List Record} → Adds rs reg a ws true → used reg + length (words-of (statement say-kind a ws ∷ [])) ≤ length reg
+        fits-now : {rs : List Record} → Adds rs reg st true → used reg + length (words-of (say-entry st)) ≤ length reg
         fits-now (added-now n f) = f
 
-    pub say-added : (new : List ℕ) → new ≡ appended reg (statement say-kind a ws ∷ []) → Says-so (say-call l reg a ws) reg a ws new Added
-    say-added new f = record { answer = sym added; register = f ∙ sym (ap (λ (o : Result Bool). after-say o reg a ws) added) }
+    pub say-added : (new : List ℕ) → new ≡ appended reg (say-entry st) → Says-so l reg st new Added
+    say-added new f = record { answer = sym added; register = f ∙ sym (ap (λ (o : Result Bool). after-say o reg st) added) }

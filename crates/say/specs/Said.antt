@@ -8,21 +8,22 @@ use Rattle.logic.specs.Limits.{most-words}
 use Rattle.logic.specs.Result.{Result, ok, refused}
 use Rattle.logic.specs.Term.{Term}
 use Rattle.words.specs.Place.{Is}
-use Rattle.register.specs.Records.{Record, register-records}
-use Rattle.register.specs.Calls.{after-say}
+use Rattle.register.specs.Records.{Record, Statement, register-records}
+use Rattle.register.specs.Calls.{Lent, say-call, after-say}
 use Rattle.say.specs.declared.Said.{Said}
 use Rattle.say.specs.declared.Said.the-variants.{Added, Held, Fault}
 
--- number, place and value of each case: whether it added a record. "Success answers 0 at place 0, and say also whether it added a record"
+-- number, place and value of each case: whether it added a record. "Success answers 0 at place 0, and say also whether
+-- it added a record"
 abbrev pub said-answer : Said → Result Bool
 said-answer Added = ok true
 said-answer Held = ok false
 said-answer (Fault m p) = refused m p
 
 -- the answer, and the register afterwards
-pub record Says-so (o : Result Bool) (old : List ℕ) (a : ℕ) (q new : List ℕ) (r : Said) : Type 0 where
-  pub answer : said-answer r ≡ o
-  pub register : new ≡ after-say o old a q
+pub record Says-so (l : Lent) (old : List ℕ) (st : Statement) (new : List ℕ) (r : Said) : Type 0 where
+  pub answer : said-answer r ≡ say-call l old st
+  pub register : new ≡ after-say (say-call l old st) old st
 
 -- a plain term of few words, and a register that is not broken
 pub record Enterable (reg ws : List ℕ) : Type 0 where

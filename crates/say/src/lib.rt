@@ -12,18 +12,17 @@ use records::format::STATEMENT_WORDS;
 use records::search::Unheld;
 use records::search::first_unheld;
 use records::search::is_held;
+use records::view::view_of;
 use records::write::add_statement;
 use rules::derivation::Verdict;
 use typing::check::check_statement;
 ghost use mathlib.Core.Path.{_≡_};
 ghost use mathlib.Core.List.{List};
-ghost use Prim.Native.Nat.{ℕ};
-ghost use lib.ListN.{length};
 ghost use Rattle.logic.specs.Result.{ok};
 ghost use Rattle.logic.specs.Term.{Term};
 ghost use Rattle.words.specs.Place.{Is};
-ghost use Rattle.register.specs.Records.{Record, used, register-records};
-ghost use Rattle.register.specs.Calls.{Lent, view, stated-own, say-call};
+ghost use Rattle.register.specs.Records.{Record, statement-of, register-records};
+ghost use Rattle.register.specs.Calls.{Lent, view, outline-of, stated-own, say-call};
 ghost use Rattle.calls.specs.Shared.{lent-of};
 ghost use Rattle.say.specs.Said.{said-answer, Says-so, Enterable};
 
@@ -39,21 +38,21 @@ fn addable(register: &[u32], principal: u32, proposition: &[u32]) -> Said
     requires { ⌜ Enterable (now register) (now proposition) ⌝ }
     ensures { λ r. ⌜ ((l : Lent) → (Σ : List Term) → (rs : List Record) → (q : Term) → register-records (now (register .entry)) ≡ ok rs
         → Is (now (proposition .entry)) q
-        → said-answer r ≡ stated-own principal (now (proposition .entry)) q (view l (length (now (register .entry))) (used (now (register .entry))) rs Σ)) ⌝ }
+        → said-answer r ≡ stated-own (statement-of principal (now (proposition .entry))) q (view l (outline-of (now (register .entry))) rs Σ)) ⌝ }
 {
-    let unheld = first_unheld(register, proposition);
+    let view = view_of(register);
+    let unheld = first_unheld(view.source, register, proposition);
     if let Unheld::At(place) = unheld {
         return Said::Fault {
             number: NOT_HELD,
             place,
         };
     }
-    let repeated = is_held(register, principal, proposition);
+    let repeated = is_held(view.source, register, principal, proposition);
     if repeated {
         return Said::Held;
     }
-    let used = register[0] as usize;
-    if register.len() - used < proposition.len() + STATEMENT_WORDS {
+    if view.size - view.used < proposition.len() + STATEMENT_WORDS {
         return Said::Fault {
             number: REGISTER_FULL,
             place: 0,
@@ -72,7 +71,7 @@ fn sayable(
     ws: &mut [u32],
 ) -> Said
     ensures { λ r. ⌜ said-answer r ≡
-        say-call (lent-of (now (sig .entry)) n (now (ws .entry))) (now (register .entry)) principal (now (proposition .entry)) ⌝ }
+        say-call (lent-of (now (sig .entry)) n (now (ws .entry))) (now (register .entry)) (statement-of principal (now (proposition .entry))) ⌝ }
 {
     let mut table = [0u32; 256];
     let ready = prepare(sig, n, register, &mut table, ws);
@@ -109,7 +108,8 @@ pub fn say(
     proposition: &[u32],
     ws: &mut [u32],
 ) -> Said
-    ensures { λ r. ⌜ Says-so (say-call (lent-of (now (sig .entry)) n (now (ws .entry))) (now (register .entry)) principal (now (proposition .entry))) (now (register .entry)) principal (now (proposition .entry)) (now (register .exit)) r ⌝ }
+    ensures { λ r. ⌜ Says-so (lent-of (now (sig .entry)) n (now (ws .entry))) (now (register .entry))
+        (statement-of principal (now (proposition .entry))) (now (register .exit)) r ⌝ }
 {
     let tested = sayable(sig, n, &register[..], principal, proposition, ws);
     match tested {

@@ -1,98 +1,138 @@
-use Rattle.records.proofs.Stands.{from-start}
-use Rattle.say.proofs.Statements.{unheld, repeated, full, enough}
+-- Test 14, whether the statement is held, and test 16, each on the register's view.
+use Prim.Native.Nat.{ℕ, _≤_}
+use mathlib.Core.Path.{_≡_, ap}
 use native.Mathlib.Omega.{arith}
+use lib.ListN.{length}
 use borrow.Author.Needs.{needs}
+use Rattle.register.specs.Records.{Statement, statement-of, used}
+use Rattle.records.specs.declared.view.View.{View}
+use Rattle.records.proofs.Items.{records-there}
+use Rattle.records.proofs.Sought.{holds-view, header-there}
+use Rattle.say.proofs.Statements.{unheld, repeated, full, enough}
 use Rattle.say.proofs.addable.Statement.{statement}
 use Rattle.say.proofs.addable.Tie as tie
-use Rattle.say.proofs.addable.Reads as reads
-use Rattle.say.proofs.addable.Lts as lts
-use Rattle.records.proofs.search.first_unheld.Reads as first-unheld-reads
-use Rattle.records.proofs.search.is_held.Reads as is-held-reads
+
+-- ---- places, from a later one back to an earlier one
+
+abbrev start : tie.After-view-of → tie.Start
+start c = c .before .before .before
+
+abbrev viewed : tie.After-first-unheld → tie.After-view-of
+viewed c = c .before
+
+-- from the search for the statement back to that for its Signs
+abbrev sought : tie.After-is-held → tie.After-first-unheld
+sought c = c .before .before .before
+
+-- ---- what holds there
+
+abbrev said : tie.Start → Statement
+said s = statement-of (s .args .principal) (s .args .proposition .now)
+
+-- the view is the register's
+record Seen (c : tie.After-view-of) : Type 0 where
+  pub size : c .view-of .result .size ≡ length (start c .args .register .now)
+  pub used-words : c .view-of .result .used ≡ used (start c .args .register .now)
+  pub within : used (start c .args .register .now) ≤ length (start c .args .register .now)
+
+seen : (c : tie.After-view-of) → Seen c
+seen c =
+    let s = start c in
+    let e = c .view-of .ensures in
+    record {
+      size = ap (λ (v : View). v .size) e;
+      used-words = ap (λ (v : View). v .used) e;
+      within = records-there (s .args .register .now) (s .pre .rs) (s .pre .reads) .within;
+    }
+
+-- ---- the needs
+
+view-of-requires : tie.Need-view-of-requires
+view-of-requires c κs = let s = c .before .before in header-there (s .args .register .now) (s .pre .reads)
 
 first-unheld-requires : tie.Need-first-unheld-requires
-first-unheld-requires c κs = search needs
+first-unheld-requires c κs =
+    let s = start c in
+    let p = s .pre in (
+      record { found = p .rs; holds = holds-view (s .args .register .now) (c .view-of .ensures) (p .reads) },
+      record { term = p .term; is = p .is },
+    )
 
 enum-known-unheld : tie.Need-enum-known-unheld
 enum-known-unheld c = search needs
 
--- ---- places, from a later one back to an earlier one
-
-abbrev before-first-unheld : tie.After-first-unheld → tie.Start
-before-first-unheld c = c .before .before .before
-
-abbrev before-match-keys2 : tie.At-match-keys2 → tie.After-first-unheld
-before-match-keys2 c = c .before
-
 returns : tie.Need-returns
 returns c =
-    let at-first-unheld = c .before .before .before in
-    let at-start = before-first-unheld at-first-unheld in
-    let a = at-start .args in
-    λ l Σ rs q g i. unheld l Σ rs (a .register .now) (a .principal) (a .proposition .now) q (at-first-unheld .first-unheld .result)
-    (at-first-unheld .first-unheld .ensures rs q g i) _ (c .before .unheld .given .1)
+    let f = c .before .before .before in
+    let v = viewed f in
+    let s = start v in
+    λ l Σ rs q g i.
+    unheld l Σ rs (s .args .register .now) (said s) q (f .first-unheld .result)
+    (f .first-unheld .ensures rs q (holds-view (s .args .register .now) (v .view-of .ensures) g) i) _ (c .before .unheld .given .1)
 
 enum-told : tie.Need-enum-told
 enum-told c = search needs
 
 is-held-requires : tie.Need-is-held-requires
-is-held-requires c κs = search needs
+is-held-requires c κs =
+    let v = viewed (c .before .before) in
+    let s = start v in
+    record { found = s .pre .rs; holds = holds-view (s .args .register .now) (v .view-of .ensures) (s .pre .reads) }
 
 returns-2 : tie.Need-returns-2
 returns-2 c =
-    let at-first-unheld = c .before .before .before .before in
-    let at-start = before-first-unheld at-first-unheld in
-    let a = at-start .args in
-    λ l Σ rs q g i. repeated l Σ rs (a .register .now) (a .principal) (a .proposition .now) q (at-first-unheld .first-unheld .result)
-    (at-first-unheld .first-unheld .ensures rs q g i) (c .before .before .enum-told .given .1) (c .before .is-held .result)
-    (c .before .is-held .ensures rs g) (c .if1 .taken)
-
-shared-slice-read-used : tie.Need-shared-slice-read-used
-shared-slice-read-used c =
-    let s = before-first-unheld (c .before .before .before .before .before) in
-    let f = from-start (s .args .register .now) _ (s .pre .reads) in omega (arith, f .end, f .within)
-
-cast-used : tie.Need-cast-used
-cast-used c = omega (arith, c .shared-slice-known3 .given 0)
+    let h = c .before in
+    let f = sought h in
+    let v = viewed f in
+    let s = start v in
+    λ l Σ rs q g i.
+    let k = holds-view (s .args .register .now) (v .view-of .ensures) g in
+    repeated l Σ rs (s .args .register .now) (said s) q (f .first-unheld .result) (f .first-unheld .ensures rs q k i)
+    (h .before .enum-told .given .1) (h .is-held .result) (h .is-held .ensures rs k) (c .if1 .taken)
 
 sub-if2 : tie.Need-sub-if2
-sub-if2 c =
-    let s = before-first-unheld (c .before .before .before .before .before) in
-    let f = from-start (s .args .register .now) _ (s .pre .reads) in omega (arith, f .end, f .within)
+sub-if2 c = let e = seen (viewed (sought (c .before .before))) in omega (arith, e .size, e .used-words, e .within)
 
 add-if2 : tie.Need-add-if2
 add-if2 c = search needs
 
 returns-3 : tie.Need-returns-3
 returns-3 c =
-    let at-first-unheld = before-match-keys2 (c .before .before .before .before .before) in
-    let at-start = before-first-unheld at-first-unheld in
-    let a = at-start .args in
-    λ l Σ rs q g i. full l Σ rs (a .register .now) (a .principal) (a .proposition .now) q (at-first-unheld .first-unheld .result)
-    (at-first-unheld .first-unheld .ensures rs q g i) (c .before .before .before .before .enum-told .given .1)
-    (c .before .before .before .is-held .result) (c .before .before .before .is-held .ensures rs g) (c .before .before .if1 .left) (c .if2 .taken)
+    let n = c .before .before in
+    let h = n .before in
+    let f = sought h in
+    let v = viewed f in
+    let s = start v in
+    let e = seen v in
+    λ l Σ rs q g i.
+    let k = holds-view (s .args .register .now) (v .view-of .ensures) g in
+    full l Σ rs (s .args .register .now) (said s) q (f .first-unheld .result) (f .first-unheld .ensures rs q k i) (h .before .enum-told .given .1)
+    (h .is-held .result) (h .is-held .ensures rs k) (n .if1 .left) (omega (arith, c .if2 .taken, e .size, e .used-words))
 
 returns-4 : tie.Need-returns-4
 returns-4 c =
-    let at-first-unheld = before-match-keys2 (c .before .before .before .before .before) in
-    let at-start = before-first-unheld at-first-unheld in
-    let a = at-start .args in
-    λ l Σ rs q g i. enough l Σ rs (a .register .now) (a .principal) (a .proposition .now) q (at-first-unheld .first-unheld .result)
-    (at-first-unheld .first-unheld .ensures rs q g i) (c .before .before .before .before .enum-told .given .1)
-    (c .before .before .before .is-held .result) (c .before .before .before .is-held .ensures rs g) (c .before .before .if1 .left)
-    (from-start (a .register .now) rs g .within) (c .if2 .left)
+    let n = c .before .before in
+    let h = n .before in
+    let f = sought h in
+    let v = viewed f in
+    let s = start v in
+    let e = seen v in
+    λ l Σ rs q g i.
+    let k = holds-view (s .args .register .now) (v .view-of .ensures) g in
+    enough l Σ rs (s .args .register .now) (said s) q (f .first-unheld .result) (f .first-unheld .ensures rs q k i) (h .before .enum-told .given .1)
+    (h .is-held .result) (h .is-held .ensures rs k) (n .if1 .left) (e .within) (omega (arith, c .if2 .left, e .size, e .used-words))
 
 pub addable-spec : {M : Type 1} → statement M
 addable-spec =
     tie.close
     (tie.spec
+    view-of-requires
     first-unheld-requires
     enum-known-unheld
     returns
     enum-told
     is-held-requires
     returns-2
-    shared-slice-read-used
-    cast-used
     sub-if2
     add-if2
     returns-3

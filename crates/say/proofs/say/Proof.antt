@@ -1,18 +1,19 @@
-use lib.ListN.{length}
+-- Nothing is written before the last test has passed.
+use Rattle.register.specs.Records.{Statement, statement-of}
 use Rattle.register.specs.Calls.{Lent}
 use Rattle.calls.specs.Shared.{lent-of}
 use Rattle.say.proofs.Statements.{say-room, say-added, say-held, say-refused}
 use borrow.Author.Needs.{needs}
 use Rattle.say.proofs.say.Statement.{statement}
 use Rattle.say.proofs.say.Tie as tie
-use Rattle.say.proofs.say.Reads as reads
-use Rattle.say.proofs.say.Lts as lts
-use Rattle.records.proofs.write.add_statement.Reads as add-statement-reads
-use Rattle.say.proofs.sayable.Reads as sayable-reads
 
 -- what is lent
 abbrev lent-here : tie.Start → Lent
 lent-here s = lent-of (s .args .sig .now) (s .args .n) (s .args .ws .now)
+
+-- what is said
+abbrev said : tie.Start → Statement
+said s = statement-of (s .args .principal) (s .args .proposition .now)
 
 sayable-requires : tie.Need-sayable-requires
 sayable-requires c κs = search needs
@@ -36,7 +37,7 @@ add-statement-requires c κs =
     let at-sayable = c .before .before .before .before .before in
     let at-start = before-slice-known (before-sayable at-sayable) in
     let a = at-start .args in
-    say-room (lent-here at-start) (a .register .now) (a .proposition .now) (a .principal) (at-sayable .sayable .result) (at-sayable .sayable .ensures)
+    say-room (lent-here at-start) (a .register .now) (said at-start) (at-sayable .sayable .result) (at-sayable .sayable .ensures)
     (c .before .enum-told .given .1)
 
 enum-told-2 : tie.Need-enum-told-2
@@ -56,7 +57,7 @@ returns c =
     let at-sayable = before-match-keys1 (c .before .before .before .before .before) in
     let at-start = before-slice-known (before-sayable at-sayable) in
     let a = at-start .args in
-    say-added (lent-here at-start) (a .register .now) (a .proposition .now) (a .principal) (at-sayable .sayable .result)
+    say-added (lent-here at-start) (a .register .now) (said at-start) (at-sayable .sayable .result)
     (at-sayable .sayable .ensures) (c .before .before .before .before .enum-told .given .1) _ (c .before .before .add-statement .ensures)
 
 same-length-3 : tie.Need-same-length-3
@@ -70,7 +71,7 @@ returns-2 c =
     let at-sayable = c .before .before .before .before in
     let at-start = before-slice-known (before-sayable at-sayable) in
     let a = at-start .args in
-    say-held (lent-here at-start) (a .register .now) (a .proposition .now) (a .principal) (at-sayable .sayable .result) (at-sayable .sayable .ensures)
+    say-held (lent-here at-start) (a .register .now) (said at-start) (at-sayable .sayable .result) (at-sayable .sayable .ensures)
     (c .enum-told2 .given .1)
 
 same-length-5 : tie.Need-same-length-5
@@ -84,7 +85,7 @@ returns-3 c =
     let at-sayable = c .before .before .before .before .before in
     let at-start = before-slice-known (before-sayable at-sayable) in
     let a = at-start .args in
-    say-refused (lent-here at-start) (a .register .now) (a .proposition .now) (a .principal) (at-sayable .sayable .result)
+    say-refused (lent-here at-start) (a .register .now) (said at-start) (at-sayable .sayable .result)
     (at-sayable .sayable .ensures) _ _ (c .before .tested .given .1)
 
 pub say-spec : {M : Type 1} → statement M

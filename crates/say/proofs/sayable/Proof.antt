@@ -1,6 +1,7 @@
+-- All tests of a say in turn: the shared ones, its principal, the proposition, and those of `addable`.
 use mathlib.Core.Path.{sym}
-use lib.ListN.{length}
 use lib.Seq.{length-take-le}
+use Rattle.register.specs.Records.{Statement, statement-of}
 use Rattle.register.specs.Calls.{Lent, say-own}
 use Rattle.calls.specs.Shared.{lent-of}
 use Rattle.calls.proofs.Checks.{Passed-so, passed-so, table-within}
@@ -9,15 +10,14 @@ use native.Mathlib.Omega.{arith}
 use borrow.Author.Needs.{needs}
 use Rattle.say.proofs.sayable.Statement.{statement}
 use Rattle.say.proofs.sayable.Tie as tie
-use Rattle.say.proofs.sayable.Reads as reads
-use Rattle.say.proofs.sayable.Lts as lts
-use Rattle.calls.proofs.shared.prepare.Reads as prepare-reads
-use Rattle.say.proofs.addable.Reads as addable-reads
-use Rattle.typing.proofs.check.check_statement.Reads as check-statement-reads
 
 -- what is lent
 abbrev lent-here : tie.Start → Lent
 lent-here s = lent-of (s .args .sig .now) (s .args .n) (s .args .ws .now)
+
+-- what is said
+abbrev said : tie.Start → Statement
+said s = statement-of (s .args .principal) (s .args .proposition .now)
 
 -- ---- places, from a later one back to an earlier one
 
@@ -48,13 +48,13 @@ passed : (c : tie.After-ready2) →
     let at-start = before-table (before-prepare at-prepare) in
     let a = at-start .args in
     Passed-so (lent-here at-start) (a .register .now) (at-prepare .prepare .last .1 .1 .1 .0) (at-prepare .prepare .result)
-    (say-own (a .principal) (a .proposition .now)) (at-prepare .prepare .ensures) (c .ready2 .given .0 .0)
+    (say-own (said at-start)) (at-prepare .prepare .ensures) (c .ready2 .given .0 .0)
 passed c =
     let at-prepare = before-ready2 c in
     let at-start = before-table (before-prepare at-prepare) in
     let a = at-start .args in
     passed-so (lent-here at-start) (a .register .now) (at-prepare .prepare .last .1 .1 .1 .0) (at-prepare .prepare .result)
-    (say-own (a .principal) (a .proposition .now)) (at-prepare .prepare .ensures) (c .ready2 .given .0 .0) (c .ready2 .given .1)
+    (say-own (said at-start)) (at-prepare .prepare .ensures) (c .ready2 .given .0 .0) (c .ready2 .given .1)
 
 slice-aggregate-prepare : tie.Need-slice-aggregate-prepare
 slice-aggregate-prepare c = search needs
@@ -77,7 +77,7 @@ returns c =
     let at-prepare = before-ready2 at-ready2 in
     let at-start = before-table (before-prepare at-prepare) in
     let a = at-start .args in
-    principal-over (lent-here at-start) (a .register .now) (at-prepare .prepare .last .1 .1 .1 .0) (a .proposition .now) (a .principal)
+    principal-over (lent-here at-start) (a .register .now) (at-prepare .prepare .last .1 .1 .1 .0) (said at-start)
     (at-prepare .prepare .result) (at-prepare .prepare .ensures) (at-ready2 .ready2 .given .0 .0) (passed at-ready2) (c .if1 .taken)
 
 same-length-2 : tie.Need-same-length-2
@@ -90,7 +90,7 @@ returns-2 c =
     let at-prepare = before-ready2 at-ready2 in
     let at-start = before-table (before-prepare at-prepare) in
     let a = at-start .args in
-    by-desk (lent-here at-start) (a .register .now) (at-prepare .prepare .last .1 .1 .1 .0) (a .proposition .now) (a .principal)
+    by-desk (lent-here at-start) (a .register .now) (at-prepare .prepare .last .1 .1 .1 .0) (said at-start)
     (at-prepare .prepare .result) (at-prepare .prepare .ensures) (at-ready2 .ready2 .given .0 .0) (passed at-ready2) (at-else1 .if1 .left)
     (c .if2 .taken)
 
@@ -138,7 +138,7 @@ addable-requires c κs =
     let at-start = before-table (before-prepare (before-ready2 at-ready2)) in
     let a = at-start .args in
     let S = passed at-ready2 in
-    let T = statement-so (S .Σ) (S .constants .signature) (a .principal) (a .proposition .now) (at-check-statement .check-statement .result)
+    let T = statement-so (S .Σ) (S .constants .signature) (said at-start) (at-check-statement .check-statement .result)
     (at-check-statement .check-statement .ensures (S .Σ) (a .principal) (S .constants)) (c .enum-told .given .1) in
     record { rs = S .rs; reads = S .reads; term = T .term; is = T .term-is; short = T .short }
 
@@ -150,7 +150,7 @@ returns-3 c =
     let at-prepare = before-table2 (c .before .before .before .before .before) in
     let at-start = before-table (before-prepare at-prepare) in
     let a = at-start .args in
-    say-not-prepared (lent-here at-start) (a .register .now) (at-prepare .prepare .last .1 .1 .1 .0) (a .proposition .now) (a .principal)
+    say-not-prepared (lent-here at-start) (a .register .now) (at-prepare .prepare .last .1 .1 .1 .0) (said at-start)
     (at-prepare .prepare .result) (at-prepare .prepare .ensures) _ _ (c .before .ready .given .1)
 
 same-length-4 : tie.Need-same-length-4
@@ -166,7 +166,7 @@ returns-4 c =
     let at-start = before-table (before-prepare at-prepare) in
     let a = at-start .args in
     let S = passed at-ready2 in
-    not-stated (lent-here at-start) (a .register .now) (at-prepare .prepare .last .1 .1 .1 .0) (a .proposition .now) (a .principal)
+    not-stated (lent-here at-start) (a .register .now) (at-prepare .prepare .last .1 .1 .1 .0) (said at-start)
     (at-prepare .prepare .result) (at-prepare .prepare .ensures) (at-ready2 .ready2 .given .0 .0) (passed at-ready2) (at-else1 .if1 .left)
     (at-else2 .if2 .left) (at-check-statement .check-statement .result)
     (at-check-statement .check-statement .ensures (S .Σ) (a .principal) (S .constants)) _ _ (c .before .stated .given .1)
@@ -184,9 +184,9 @@ returns-5 c =
     let at-start = before-table (before-prepare at-prepare) in
     let a = at-start .args in
     let S = passed at-ready2 in
-    let T = statement-so (S .Σ) (S .constants .signature) (a .principal) (a .proposition .now) (at-check-statement .check-statement .result)
+    let T = statement-so (S .Σ) (S .constants .signature) (said at-start) (at-check-statement .check-statement .result)
     (at-check-statement .check-statement .ensures (S .Σ) (a .principal) (S .constants)) (c .before .enum-told .given .1) in
-    stated (lent-here at-start) (a .register .now) (at-prepare .prepare .last .1 .1 .1 .0) (a .proposition .now) (a .principal)
+    stated (lent-here at-start) (a .register .now) (at-prepare .prepare .last .1 .1 .1 .0) (said at-start)
     (at-prepare .prepare .result) (at-prepare .prepare .ensures) (at-ready2 .ready2 .given .0 .0) (passed at-ready2) (at-else1 .if1 .left)
     (at-else2 .if2 .left) (at-check-statement .check-statement .result)
     (at-check-statement .check-statement .ensures (S .Σ) (a .principal) (S .constants)) T (c .addable .result)

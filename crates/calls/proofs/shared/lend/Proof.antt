@@ -51,7 +51,7 @@ returns-2 c =
     let at-else1 = before-accept at-accept in
     let s = before-else1 at-else1 in
     let a = s .args in
-    opened-as (lent-of (a .sig .now) (a .n) (length (a .ws .now))) (a .register) _ (at-accept .accept .result) (fine at-else1) (at-accept .accept .ensures)
+    opened-as (lent-of (a .sig .now) (a .n) (a .ws .now)) (a .register) _ (at-accept .accept .result) (fine at-else1) (at-accept .accept .ensures)
 
 pub lend-spec : {M : Type 1} → statement M
 lend-spec =

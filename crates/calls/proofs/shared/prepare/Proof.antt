@@ -43,7 +43,7 @@ returns : tie.Need-returns
 returns c =
     let s = before-shared-slice-known (c .before .before .before .before .before) in
     let a = s .args in
-    prepared-refused (lent-of (a .sig .now) (a .n) (length (a .ws .now))) (a .register .now) (a .table .now) (c .before .lengths .result)
+    prepared-refused (lent-of (a .sig .now) (a .n) (a .ws .now)) (a .register .now) (a .table .now) (c .before .lengths .result)
     (c .before .lengths .ensures) (c .if1 .taken)
 
 walk-requires : tie.Need-walk-requires
@@ -58,7 +58,7 @@ returns-2 c =
     let at-else1 = before-walk at-walk in
     let s = before-shared-slice-known (before-else1 at-else1) in
     let a = s .args in
-    prepared-broken (lent-of (a .sig .now) (a .n) (length (a .ws .now))) (a .register .now) (a .table .now) (at-walk .walk .result) (fine at-else1)
+    prepared-broken (lent-of (a .sig .now) (a .n) (a .ws .now)) (a .register .now) (a .table .now) (at-walk .walk .result) (fine at-else1)
     (at-walk .walk .ensures) (c .enum-told .given .1)
 
 enum-told-2 : tie.Need-enum-told-2
@@ -84,7 +84,7 @@ returns-3 c =
     let at-else1 = before-walk at-walk in
     let s = before-shared-slice-known (before-else1 at-else1) in
     let a = s .args in
-    prepared-as (lent-of (a .sig .now) (a .n) (length (a .ws .now))) (a .register .now) _ (at-walk .walk .result) (fine at-else1)
+    prepared-as (lent-of (a .sig .now) (a .n) (a .ws .now)) (a .register .now) _ (at-walk .walk .result) (fine at-else1)
     (at-walk .walk .ensures) _ (at-accept .accept .result) (at-enum-told2 .enum-told2 .given .1) (at-accept .accept .ensures)
 
 pub prepare-spec : {M : Type 1} → statement M
