@@ -32,7 +32,7 @@ signature-of r = well-formed empty-signature (r .accepted)
 
 module _ (l : Lent) (o : Outline) where
   -- where they passed, what is lent is ready
-  pub made-ready : {Σ : List Term} → least-workspace ≤ l .workspace → 
+  pub made-ready : {Σ : List Term} → least-workspace ≤ l .workspace →
       (header ≤ o .size) × (o .size ≤ most-register) → Lists [] (l .sig) Σ → operations-test Σ (l .n) ≡ true → Ready l (o .size) Σ
   made-ready {Σ} long size lists e =
       let (n, ops) = both-true (leb 1 (l .n) && leb (l .n) most-operations) (operations Σ (l .n)) e in

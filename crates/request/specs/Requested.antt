@@ -4,18 +4,18 @@ use mathlib.Core.Path.{_≡_}
 use mathlib.Core.List.{List}
 use lib.ListN.{length}
 use Rattle.logic.specs.Limits.{payloads, most-words, most-operations}
-use Rattle.logic.specs.Result.{Result, ok}
+use Rattle.logic.specs.Result.{ok}
 use Rattle.logic.specs.Term.{Term}
 use Rattle.words.specs.Place.{Is}
 use Rattle.rules.specs.declared.derivation.Verdict.{Verdict}
 use Rattle.rules.specs.Form.{verdict-answer}
-use Rattle.register.specs.Records.{Record, register-records}
-use Rattle.register.specs.Calls.{after-request}
+use Rattle.register.specs.Records.{Record, Ask, register-records}
+use Rattle.register.specs.Calls.{Lent, request-call, after-request}
 
 -- the answer, and the register afterwards
-pub record Requested (o : Result (Unit {0})) (old : List ℕ) (i v u : ℕ) (p new : List ℕ) (r : Verdict) : Type 0 where
-  pub answer : verdict-answer r ≡ o
-  pub register : new ≡ after-request o old i v u p
+pub record Requested (l : Lent) (old : List ℕ) (k : Ask) (new : List ℕ) (r : Verdict) : Type 0 where
+  pub answer : verdict-answer r ≡ request-call l old k
+  pub register : new ≡ after-request (request-call l old k) old k
 
 -- a proof whose type is the first n words of the workspace, and a register that is not broken
 pub record Provable (reg : List ℕ) (i v : ℕ) (p ws : List ℕ) (n : ℕ) : Type 0 where

@@ -17,15 +17,14 @@ use records::format::DESK;
 use records::format::GRANT_WORDS;
 use records::search::Unheld;
 use records::search::first_unheld;
+use records::view::view_of;
 use records::write::add_grant;
 use rules::derivation::Derivation;
 use rules::derivation::Verdict;
 use typing::check::check_term;
 use words::part::same;
 ghost use mathlib.Core.Path.{_≡_};
-ghost use mathlib.Core.Bool.{_&&_};
 ghost use mathlib.Core.List.{List};
-ghost use lib.Dec.{ltb};
 ghost use Prim.Native.Nat.{ℕ, _<_, _≤_};
 ghost use lib.ListN.{length};
 ghost use Rattle.logic.specs.Limits.{payloads, most-operations};
@@ -35,14 +34,14 @@ ghost use Rattle.logic.specs.Infer.{same as sameTerm};
 ghost use Rattle.words.specs.Place.{Is};
 ghost use Rattle.words.specs.Typed.{TypeAt};
 ghost use Rattle.rules.specs.Form.{verdict-answer};
-ghost use Rattle.register.specs.Records.{Record, used, register-records};
-ghost use Rattle.register.specs.Calls.{Lent, view, payload, permission, proved-own, request-call};
+ghost use Rattle.register.specs.Records.{Record, ask-of, register-records};
+ghost use Rattle.register.specs.Calls.{Lent, view, outline-of, ask-test, permission, proved-own, request-call};
 ghost use Rattle.calls.specs.Shared.{lent-of};
 ghost use Rattle.request.specs.Requested.{Requested, Provable};
 
 // Test 5 of the call's own numbers.
 fn numbers(n: u32, operation: u32, extract: u32, delivery: u32) -> bool
-    ensures { λ r. ⌜ r ≡ (ltb operation n && payload extract && payload delivery) ⌝ }
+    ensures { λ r. ⌜ ((proof : List ℕ) → r ≡ ask-test n (ask-of operation extract delivery proof)) ⌝ }
 {
     if n <= operation {
         return false;
@@ -56,7 +55,8 @@ fn numbers(n: u32, operation: u32, extract: u32, delivery: u32) -> bool
 // Test 13: whether the type of n words at the front of the workspace is Says a0 App C2i sv.
 fn permits(ws: &[u32], n: usize, operation: u32, extract: u32) -> bool
     requires { ⌜ (n ≤ length (now ws)) × (operation < most-operations) × (extract < payloads) ⌝ }
-    ensures { λ r. ⌜ ((A : Term) → TypeAt (now (ws .entry)) 0 A → n ≡ size A → r ≡ sameTerm A (permission operation extract)) ⌝ }
+    ensures { λ r. ⌜ ((A : Term) → (delivery : ℕ) → (proof : List ℕ) → TypeAt (now (ws .entry)) 0 A → n ≡ size A
+        → r ≡ sameTerm A (permission (ask-of operation extract delivery proof))) ⌝ }
 {
     let wanted = [
         SAYS,
@@ -80,8 +80,8 @@ fn proves(
     requires { ⌜ Provable (now register) operation extract (now proof) (now ws) n ⌝ }
     ensures { λ r. ⌜ ((l : Lent) → (Σ : List Term) → (rs : List Record) → (delivery : ℕ) → (t A : Term)
         → register-records (now (register .entry)) ≡ ok rs → Is (now (proof .entry)) t → TypeAt (now (ws .entry)) 0 A → n ≡ size A
-        → verdict-answer r ≡ proved-own operation extract delivery (now (proof .entry)) (record { term = t; type = A })
-        (view l (length (now (register .entry))) (used (now (register .entry))) rs Σ)) ⌝ }
+        → verdict-answer r ≡ proved-own (ask-of operation extract delivery (now (proof .entry))) (record { term = t; type = A })
+        (view l (outline-of (now (register .entry))) rs Σ)) ⌝ }
 {
     let wanted = permits(ws, n, operation, extract);
     if !wanted {
@@ -90,15 +90,15 @@ fn proves(
             place: 0,
         };
     }
-    let unheld = first_unheld(register, proof);
+    let view = view_of(register);
+    let unheld = first_unheld(view.source, register, proof);
     if let Unheld::At(place) = unheld {
         return Verdict::Fault {
             number: NOT_HELD,
             place,
         };
     }
-    let used = register[0] as usize;
-    if register.len() - used < proof.len() + GRANT_WORDS {
+    if view.size - view.used < proof.len() + GRANT_WORDS {
         return Verdict::Fault {
             number: REGISTER_FULL,
             place: 0,
@@ -119,7 +119,8 @@ fn grantable(
     ws: &mut [u32],
 ) -> Verdict
     ensures { λ r. ⌜ verdict-answer r ≡
-        request-call (lent-of (now (sig .entry)) n (now (ws .entry))) (now (register .entry)) operation extract delivery (now (proof .entry)) ⌝ }
+        request-call (lent-of (now (sig .entry)) n (now (ws .entry))) (now (register .entry))
+        (ask-of operation extract delivery (now (proof .entry))) ⌝ }
 {
     let mut table = [0u32; 256];
     let ready = prepare(sig, n, register, &mut table, ws);
@@ -155,7 +156,8 @@ pub fn request(
     proof: &[u32],
     ws: &mut [u32],
 ) -> Verdict
-    ensures { λ r. ⌜ Requested (request-call (lent-of (now (sig .entry)) n (now (ws .entry))) (now (register .entry)) operation extract delivery (now (proof .entry))) (now (register .entry)) operation extract delivery (now (proof .entry)) (now (register .exit)) r ⌝ }
+    ensures { λ r. ⌜ Requested (lent-of (now (sig .entry)) n (now (ws .entry))) (now (register .entry))
+        (ask-of operation extract delivery (now (proof .entry))) (now (register .exit)) r ⌝ }
 {
     let tested = grantable(
         sig,

@@ -1,7 +1,8 @@
+-- All tests of a request in turn: the shared ones, its numbers, the type of its proof, and those of `proves`.
 use mathlib.Core.Path.{sym}
-use lib.ListN.{length}
 use lib.Seq.{length-take-le}
 use borrow.Author.Tests.{not-true, not-false}
+use Rattle.register.specs.Records.{Ask, ask-of}
 use Rattle.register.specs.Calls.{Lent, request-own}
 use Rattle.calls.specs.Shared.{lent-of}
 use Rattle.calls.proofs.Checks.{Passed-so, passed-so, table-within}
@@ -10,16 +11,14 @@ use native.Mathlib.Omega.{arith}
 use borrow.Author.Needs.{needs}
 use Rattle.request.proofs.grantable.Statement.{statement}
 use Rattle.request.proofs.grantable.Tie as tie
-use Rattle.request.proofs.grantable.Reads as reads
-use Rattle.request.proofs.grantable.Lts as lts
-use Rattle.calls.proofs.shared.prepare.Reads as prepare-reads
-use Rattle.request.proofs.numbers.Reads as numbers-reads
-use Rattle.request.proofs.proves.Reads as proves-reads
-use Rattle.typing.proofs.check.check_term.Reads as check-term-reads
 
 -- what is lent
 abbrev lent-here : tie.Start → Lent
 lent-here s = lent-of (s .args .sig .now) (s .args .n) (s .args .ws .now)
+
+-- what is asked
+abbrev asked : tie.Start → Ask
+asked s = ask-of (s .args .operation) (s .args .extract) (s .args .delivery) (s .args .proof .now)
 
 -- ---- places, from a later one back to an earlier one
 
@@ -56,13 +55,13 @@ passed : (c : tie.After-ready2) →
     let at-start = before-table (before-prepare at-prepare) in
     let a = at-start .args in
     Passed-so (lent-here at-start) (a .register .now) (at-prepare .prepare .last .1 .1 .1 .0) (at-prepare .prepare .result)
-    (request-own (a .operation) (a .extract) (a .delivery) (a .proof .now)) (at-prepare .prepare .ensures) (c .ready2 .given .0 .0)
+    (request-own (asked at-start)) (at-prepare .prepare .ensures) (c .ready2 .given .0 .0)
 passed c =
     let at-prepare = before-ready2 c in
     let at-start = before-table (before-prepare at-prepare) in
     let a = at-start .args in
     passed-so (lent-here at-start) (a .register .now) (at-prepare .prepare .last .1 .1 .1 .0) (at-prepare .prepare .result)
-    (request-own (a .operation) (a .extract) (a .delivery) (a .proof .now)) (at-prepare .prepare .ensures) (c .ready2 .given .0 .0)
+    (request-own (asked at-start)) (at-prepare .prepare .ensures) (c .ready2 .given .0 .0)
     (c .ready2 .given .1)
 
 slice-aggregate-prepare : tie.Need-slice-aggregate-prepare
@@ -91,9 +90,8 @@ returns c =
     let at-start = before-table (before-prepare at-prepare) in
     let a = at-start .args in
     let S = passed at-ready2 in
-    bad-numbers (lent-here at-start) (a .register .now) (at-prepare .prepare .last .1 .1 .1 .0) (a .proof .now) (a .operation) (a .extract)
-    (a .delivery) (at-prepare .prepare .result) (at-prepare .prepare .ensures) (at-ready2 .ready2 .given .0 .0) (passed at-ready2)
-    (at-numbers .numbers .result) (at-numbers .numbers .ensures) (not-true _ (c .if1 .taken))
+    bad-numbers (lent-here at-start) (a .register .now) (at-prepare .prepare .last .1 .1 .1 .0) (asked at-start) (at-prepare .prepare .result) (at-prepare .prepare .ensures) (at-ready2 .ready2 .given .0 .0) (passed at-ready2)
+    (at-numbers .numbers .result) (at-numbers .numbers .ensures (a .proof .now)) (not-true _ (c .if1 .taken))
 
 array-share-prefix-table : tie.Need-array-share-prefix-table
 array-share-prefix-table c =
@@ -142,12 +140,10 @@ proves-requires c κs =
     let at-start = before-table (before-prepare at-prepare) in
     let a = at-start .args in
     let S = passed at-ready2 in
-    let N = in-range-numbers (lent-here at-start) (a .register .now) (at-prepare .prepare .last .1 .1 .1 .0) (a .proof .now) (a .operation)
-    (a .extract) (a .delivery) (at-prepare .prepare .result) (at-prepare .prepare .ensures) (at-ready2 .ready2 .given .0 .0) (passed at-ready2)
-    (at-numbers .numbers .result) (at-numbers .numbers .ensures) (not-false _ (at-else1 .if1 .left)) in
-    let T = term-here (lent-here at-start) (a .register .now) (at-prepare .prepare .last .1 .1 .1 .0) (a .proof .now) (a .operation) (a .extract)
-    (a .delivery) (at-prepare .prepare .result) (at-prepare .prepare .ensures) (at-ready2 .ready2 .given .0 .0) (passed at-ready2)
-    (at-numbers .numbers .result) (at-numbers .numbers .ensures) (not-false _ (at-else1 .if1 .left))
+    let N = in-range-numbers (lent-here at-start) (a .register .now) (at-prepare .prepare .last .1 .1 .1 .0) (asked at-start) (at-prepare .prepare .result) (at-prepare .prepare .ensures) (at-ready2 .ready2 .given .0 .0) (passed at-ready2)
+    (at-numbers .numbers .result) (at-numbers .numbers .ensures (a .proof .now)) (not-false _ (at-else1 .if1 .left)) in
+    let T = term-here (lent-here at-start) (a .register .now) (at-prepare .prepare .last .1 .1 .1 .0) (asked at-start) (at-prepare .prepare .result) (at-prepare .prepare .ensures) (at-ready2 .ready2 .given .0 .0) (passed at-ready2)
+    (at-numbers .numbers .result) (at-numbers .numbers .ensures (a .proof .now)) (not-false _ (at-else1 .if1 .left))
     (at-check-term .check-term .last .1 .1 .1 .1 .1 .0) (at-check-term .check-term .result) _ _
     (at-check-term .check-term .ensures (S .Σ) (S .constants)) (c .before .before .typed2 .given .1) in
     record {
@@ -157,9 +153,8 @@ proves-requires c κs =
       is = T .term-is;
       operation = omega (arith, N .0, S .lent-so .operations);
       extract = N .1;
-      inside = words-inside (lent-here at-start) (a .register .now) (at-prepare .prepare .last .1 .1 .1 .0) (a .proof .now) (a .operation)
-          (a .extract) (a .delivery) (at-prepare .prepare .result) (at-prepare .prepare .ensures) (at-ready2 .ready2 .given .0 .0) (passed at-ready2)
-          (at-numbers .numbers .result) (at-numbers .numbers .ensures) (not-false _ (at-else1 .if1 .left))
+      inside = words-inside (lent-here at-start) (a .register .now) (at-prepare .prepare .last .1 .1 .1 .0) (asked at-start) (at-prepare .prepare .result) (at-prepare .prepare .ensures) (at-ready2 .ready2 .given .0 .0) (passed at-ready2)
+          (at-numbers .numbers .result) (at-numbers .numbers .ensures (a .proof .now)) (not-false _ (at-else1 .if1 .left))
           (at-check-term .check-term .last .1 .1 .1 .1 .1 .0) (at-check-term .check-term .result) _ _
           (at-check-term .check-term .ensures (S .Σ) (S .constants)) (c .before .before .typed2 .given .1);
       short = T .short;
@@ -173,8 +168,7 @@ returns-2 c =
     let at-prepare = before-table2 (c .before .before .before .before .before) in
     let at-start = before-table (before-prepare at-prepare) in
     let a = at-start .args in
-    request-not-prepared (lent-here at-start) (a .register .now) (at-prepare .prepare .last .1 .1 .1 .0) (a .proof .now) (a .operation) (a .extract)
-    (a .delivery) (at-prepare .prepare .result) (at-prepare .prepare .ensures) _ _ (c .before .ready .given .1)
+    request-not-prepared (lent-here at-start) (a .register .now) (at-prepare .prepare .last .1 .1 .1 .0) (asked at-start) (at-prepare .prepare .result) (at-prepare .prepare .ensures) _ _ (c .before .ready .given .1)
 
 same-length-3 : tie.Need-same-length-3
 same-length-3 c = search needs
@@ -189,9 +183,8 @@ returns-3 c =
     let at-start = before-table (before-prepare at-prepare) in
     let a = at-start .args in
     let S = passed at-ready2 in
-    not-typed (lent-here at-start) (a .register .now) (at-prepare .prepare .last .1 .1 .1 .0) (a .proof .now) (a .operation) (a .extract)
-    (a .delivery) (at-prepare .prepare .result) (at-prepare .prepare .ensures) (at-ready2 .ready2 .given .0 .0) (passed at-ready2)
-    (at-numbers .numbers .result) (at-numbers .numbers .ensures) (not-false _ (at-else1 .if1 .left)) _ (at-check-term .check-term .result) _ _
+    not-typed (lent-here at-start) (a .register .now) (at-prepare .prepare .last .1 .1 .1 .0) (asked at-start) (at-prepare .prepare .result) (at-prepare .prepare .ensures) (at-ready2 .ready2 .given .0 .0) (passed at-ready2)
+    (at-numbers .numbers .result) (at-numbers .numbers .ensures (a .proof .now)) (not-false _ (at-else1 .if1 .left)) _ (at-check-term .check-term .result) _ _
     (at-check-term .check-term .ensures (S .Σ) (S .constants)) (c .before .typed .given .1)
 
 same-length-4 : tie.Need-same-length-4
@@ -207,19 +200,17 @@ returns-4 c =
     let at-start = before-table (before-prepare at-prepare) in
     let a = at-start .args in
     let S = passed at-ready2 in
-    let A = type-here (lent-here at-start) (a .register .now) (at-prepare .prepare .last .1 .1 .1 .0) (a .proof .now) (a .operation) (a .extract)
-    (a .delivery) (at-prepare .prepare .result) (at-prepare .prepare .ensures) (at-ready2 .ready2 .given .0 .0) (passed at-ready2)
-    (at-numbers .numbers .result) (at-numbers .numbers .ensures) (not-false _ (at-else1 .if1 .left))
+    let A = type-here (lent-here at-start) (a .register .now) (at-prepare .prepare .last .1 .1 .1 .0) (asked at-start) (at-prepare .prepare .result) (at-prepare .prepare .ensures) (at-ready2 .ready2 .given .0 .0) (passed at-ready2)
+    (at-numbers .numbers .result) (at-numbers .numbers .ensures (a .proof .now)) (not-false _ (at-else1 .if1 .left))
     (at-check-term .check-term .last .1 .1 .1 .1 .1 .0) (at-check-term .check-term .result) _ _
     (at-check-term .check-term .ensures (S .Σ) (S .constants)) (c .before .before .before .typed2 .given .1) in
-    let T = term-here (lent-here at-start) (a .register .now) (at-prepare .prepare .last .1 .1 .1 .0) (a .proof .now) (a .operation) (a .extract)
-    (a .delivery) (at-prepare .prepare .result) (at-prepare .prepare .ensures) (at-ready2 .ready2 .given .0 .0) (passed at-ready2)
-    (at-numbers .numbers .result) (at-numbers .numbers .ensures) (not-false _ (at-else1 .if1 .left))
+    let T = term-here (lent-here at-start) (a .register .now) (at-prepare .prepare .last .1 .1 .1 .0) (asked at-start) (at-prepare .prepare .result) (at-prepare .prepare .ensures) (at-ready2 .ready2 .given .0 .0) (passed at-ready2)
+    (at-numbers .numbers .result) (at-numbers .numbers .ensures (a .proof .now)) (not-false _ (at-else1 .if1 .left))
     (at-check-term .check-term .last .1 .1 .1 .1 .1 .0) (at-check-term .check-term .result) _ _
     (at-check-term .check-term .ensures (S .Σ) (S .constants)) (c .before .before .before .typed2 .given .1) in
-    proved (lent-here at-start) (a .register .now) (at-prepare .prepare .last .1 .1 .1 .0) (a .proof .now) (a .operation) (a .extract) (a .delivery)
+    proved (lent-here at-start) (a .register .now) (at-prepare .prepare .last .1 .1 .1 .0) (asked at-start)
     (at-prepare .prepare .result) (at-prepare .prepare .ensures) (at-ready2 .ready2 .given .0 .0) (passed at-ready2) (at-numbers .numbers .result)
-    (at-numbers .numbers .ensures) (not-false _ (at-else1 .if1 .left)) (at-check-term .check-term .last .1 .1 .1 .1 .1 .0)
+    (at-numbers .numbers .ensures (a .proof .now)) (not-false _ (at-else1 .if1 .left)) (at-check-term .check-term .last .1 .1 .1 .1 .1 .0)
     (at-check-term .check-term .result) _ _ (at-check-term .check-term .ensures (S .Σ) (S .constants)) (c .before .before .before .typed2 .given .1)
     (c .proves .result)
     (c .proves .ensures (lent-here at-start) (S .Σ) (S .rs) (a .delivery) (T .term) (A .type) (S .reads) (T .term-is) (A .front) (A .words-are))

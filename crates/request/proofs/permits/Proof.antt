@@ -1,13 +1,12 @@
+-- The words of the permission are built and compared with those of the type.
 use mathlib.Core.Path.{refl, sym}
 use lib.Seq.{length-take-le}
 use Rattle.logic.specs.Term.{encode}
+use Rattle.register.specs.Records.{ask-of}
 use Rattle.request.proofs.Grants.{permission-found}
 use borrow.Author.Needs.{needs}
 use Rattle.request.proofs.permits.Statement.{statement}
 use Rattle.request.proofs.permits.Tie as tie
-use Rattle.request.proofs.permits.Reads as reads
-use Rattle.request.proofs.permits.Lts as lts
-use Rattle.words.proofs.part.same.Reads as same-reads
 
 add-t6 : tie.Need-add-t6
 add-t6 c = search needs
@@ -32,7 +31,11 @@ same-requires c κs = search needs
 
 returns : tie.Need-returns
 unfolding encode
-returns c = let s = c .before .before .before .before in permission-found (s .args .ws .now) _ (s .args .n) (s .args .operation) (s .args .extract) (c .same .result) (s .pre .1) (s .pre .2) refl (c .same .ensures)
+returns c =
+    let s = c .before .before .before .before in
+    let a = s .args in
+    λ A delivery proof T e.
+    permission-found (a .ws .now) _ (a .n) (ask-of (a .operation) (a .extract) delivery proof) (c .same .result) (s .pre .1) (s .pre .2) refl (c .same .ensures) A T e
 
 pub permits-spec : {M : Type 1} → statement M
 permits-spec =

@@ -1,86 +1,124 @@
-use Rattle.request.proofs.Grants.{another, unheld, full, enough}
-use Rattle.records.proofs.Stands.{from-start}
-use borrow.Author.Tests.{not-true, not-false}
+-- Tests 13, 14 and 16, the last two on the register's view.
+use Prim.Native.Nat.{ℕ, _≤_}
+use mathlib.Core.Path.{_≡_, ap}
 use native.Mathlib.Omega.{arith}
+use lib.ListN.{length}
+use borrow.Author.Tests.{not-true, not-false}
 use borrow.Author.Needs.{needs}
+use Rattle.register.specs.Records.{Ask, ask-of, used}
+use Rattle.records.specs.declared.view.View.{View}
+use Rattle.records.proofs.Items.{records-there}
+use Rattle.records.proofs.Sought.{holds-view, header-there}
+use Rattle.request.proofs.Grants.{another, unheld, full, enough}
 use Rattle.request.proofs.proves.Statement.{statement}
 use Rattle.request.proofs.proves.Tie as tie
-use Rattle.request.proofs.proves.Reads as reads
-use Rattle.request.proofs.proves.Lts as lts
-use Rattle.records.proofs.search.first_unheld.Reads as first-unheld-reads
-use Rattle.request.proofs.permits.Reads as permits-reads
+
+-- ---- places, from a later one back to an earlier one
+
+abbrev start : tie.After-permits → tie.Start
+start c = c .before .before .before .before
+
+-- from the view back to test 13
+abbrev permitted : tie.After-view-of → tie.After-permits
+permitted c = c .before .before
+
+abbrev viewed : tie.After-first-unheld → tie.After-view-of
+viewed c = c .before
+
+-- ---- what holds there
+
+abbrev asked : tie.Start → ℕ → Ask
+asked s delivery = ask-of (s .args .operation) (s .args .extract) delivery (s .args .proof .now)
+
+-- the view is the register's
+record Seen (c : tie.After-view-of) : Type 0 where
+  pub size : c .view-of .result .size ≡ length (start (permitted c) .args .register .now)
+  pub used-words : c .view-of .result .used ≡ used (start (permitted c) .args .register .now)
+  pub within : used (start (permitted c) .args .register .now) ≤ length (start (permitted c) .args .register .now)
+
+seen : (c : tie.After-view-of) → Seen c
+seen c =
+    let s = start (permitted c) in
+    let e = c .view-of .ensures in
+    record {
+      size = ap (λ (v : View). v .size) e;
+      used-words = ap (λ (v : View). v .used) e;
+      within = records-there (s .args .register .now) (s .pre .rs) (s .pre .reads) .within;
+    }
+
+-- ---- the needs
 
 permits-requires : tie.Need-permits-requires
 permits-requires c κs = let q = c .before .before .before .pre in (q .inside, q .operation, q .extract)
 
 returns : tie.Need-returns
 returns c =
-    λ l Σ rs u t A g i T e. let s = c .before .before .before .before .before in another l Σ rs (s .args .register .now) (s .args .operation)
-    (s .args .extract) u (s .args .proof .now) t A (c .before .permits .result) (c .before .permits .ensures A T e) (not-true _ (c .if1 .taken))
+    let p = c .before in
+    let s = start p in
+    λ l Σ rs delivery t A g i T e.
+    another l Σ rs (s .args .register .now) (asked s delivery) t A (p .permits .result) (p .permits .ensures A delivery (s .args .proof .now) T e) (not-true _ (c .if1 .taken))
+
+view-of-requires : tie.Need-view-of-requires
+view-of-requires c κs = let s = start (c .before) in header-there (s .args .register .now) (s .pre .reads)
 
 first-unheld-requires : tie.Need-first-unheld-requires
 first-unheld-requires c κs =
-    let q = c .before .before .before .before .before .pre in
-    (record { found = q .rs; reads = q .reads }, record { term = q .term; is = q .is })
+    let s = start (permitted c) in
+    let q = s .pre in (
+      record { found = q .rs; holds = holds-view (s .args .register .now) (c .view-of .ensures) (q .reads) },
+      record { term = q .term; is = q .is },
+    )
 
 enum-known-unheld : tie.Need-enum-known-unheld
 enum-known-unheld c = search needs
 
--- ---- places, from a later one back to an earlier one
-
-abbrev before-permits : tie.After-permits → tie.Start
-before-permits c = c .before .before .before .before
-
-abbrev before-match-keys2 : tie.At-match-keys2 → tie.After-permits
-before-match-keys2 c = c .before .before .before
-
 returns-2 : tie.Need-returns-2
 returns-2 c =
-    let at-permits = c .before .before .before .before .before in
-    let s = before-permits at-permits in
-    let a = s .args in
-    λ l Σ rs u t A g i T e. unheld l Σ rs (a .register .now) (a .operation) (a .extract) u (a .proof .now) t A (at-permits .permits .result)
-    (at-permits .permits .ensures A T e) (not-false _ (c .before .before .before .before .if1 .left))
-    (c .before .before .before .first-unheld .result) (c .before .before .before .first-unheld .ensures rs t g i) _ (c .before .unheld .given .1)
+    let f = c .before .before .before in
+    let v = viewed f in
+    let p = permitted v in
+    let s = start p in
+    λ l Σ rs delivery t A g i T e.
+    let k = holds-view (s .args .register .now) (v .view-of .ensures) g in
+    unheld l Σ rs (s .args .register .now) (asked s delivery) t A (p .permits .result) (p .permits .ensures A delivery (s .args .proof .now) T e)
+    (not-false _ (v .before .if1 .left)) (f .first-unheld .result) (f .first-unheld .ensures rs t k i) _ (c .before .unheld .given .1)
 
 enum-told : tie.Need-enum-told
 enum-told c = search needs
 
-shared-slice-read-used : tie.Need-shared-slice-read-used
-shared-slice-read-used c =
-    let s = before-permits (c .before .before .before .before .before) in
-    let f = from-start (s .args .register .now) _ (s .pre .reads) in omega (arith, f .end, f .within)
-
-cast-used : tie.Need-cast-used
-cast-used c = omega (arith, c .shared-slice-known4 .given 0)
-
 sub-if2 : tie.Need-sub-if2
-sub-if2 c =
-    let s = before-permits (c .before .before .before .before .before) in
-    let f = from-start (s .args .register .now) _ (s .pre .reads) in omega (arith, f .end, f .within)
+sub-if2 c = let e = seen (viewed (c .before .before .before)) in omega (arith, e .size, e .used-words, e .within)
 
 add-if2 : tie.Need-add-if2
 add-if2 c = search needs
 
 returns-3 : tie.Need-returns-3
 returns-3 c =
-    let at-permits = before-match-keys2 (c .before .before .before) in
-    let s = before-permits at-permits in
-    let a = s .args in
-    λ l Σ rs u t A g i T e. full l Σ rs (a .register .now) (a .operation) (a .extract) u (a .proof .now) t A (at-permits .permits .result)
-    (at-permits .permits .ensures A T e) (not-false _ (c .before .before .before .before .before .if1 .left))
-    (c .before .before .before .before .first-unheld .result) (c .before .before .before .before .first-unheld .ensures rs t g i)
-    (c .before .before .enum-told .given .1) (c .if2 .taken)
+    let n = c .before .before in
+    let f = n .before .before in
+    let v = viewed f in
+    let p = permitted v in
+    let s = start p in
+    let w = seen v in
+    λ l Σ rs delivery t A g i T e.
+    let k = holds-view (s .args .register .now) (v .view-of .ensures) g in
+    full l Σ rs (s .args .register .now) (asked s delivery) t A (p .permits .result) (p .permits .ensures A delivery (s .args .proof .now) T e)
+    (not-false _ (v .before .if1 .left)) (f .first-unheld .result) (f .first-unheld .ensures rs t k i) (n .enum-told .given .1)
+    (omega (arith, c .if2 .taken, w .size, w .used-words))
 
 returns-4 : tie.Need-returns-4
 returns-4 c =
-    let at-permits = before-match-keys2 (c .before .before .before) in
-    let s = before-permits at-permits in
-    let a = s .args in
-    λ l Σ rs u t A g i T e. enough l Σ rs (a .register .now) (a .operation) (a .extract) u (a .proof .now) t A (at-permits .permits .result)
-    (at-permits .permits .ensures A T e) (not-false _ (c .before .before .before .before .before .if1 .left))
-    (c .before .before .before .before .first-unheld .result) (c .before .before .before .before .first-unheld .ensures rs t g i)
-    (c .before .before .enum-told .given .1) (from-start (a .register .now) rs g .within) (c .if2 .left)
+    let n = c .before .before in
+    let f = n .before .before in
+    let v = viewed f in
+    let p = permitted v in
+    let s = start p in
+    let w = seen v in
+    λ l Σ rs delivery t A g i T e.
+    let k = holds-view (s .args .register .now) (v .view-of .ensures) g in
+    enough l Σ rs (s .args .register .now) (asked s delivery) t A (p .permits .result) (p .permits .ensures A delivery (s .args .proof .now) T e)
+    (not-false _ (v .before .if1 .left)) (f .first-unheld .result) (f .first-unheld .ensures rs t k i) (n .enum-told .given .1) (w .within)
+    (omega (arith, c .if2 .left, w .size, w .used-words))
 
 pub proves-spec : {M : Type 1} → statement M
 proves-spec =
@@ -88,12 +126,11 @@ proves-spec =
     (tie.spec
     permits-requires
     returns
+    view-of-requires
     first-unheld-requires
     enum-known-unheld
     returns-2
     enum-told
-    shared-slice-read-used
-    cast-used
     sub-if2
     add-if2
     returns-3

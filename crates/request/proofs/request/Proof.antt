@@ -1,4 +1,5 @@
-use lib.ListN.{length}
+-- Nothing is written before the last test has passed.
+use Rattle.register.specs.Records.{Ask, ask-of}
 use Rattle.register.specs.Calls.{Lent}
 use Rattle.calls.specs.Shared.{lent-of}
 use Rattle.request.proofs.Grants.{request-refused, grantable-now, grant-room, request-granted}
@@ -6,14 +7,14 @@ use native.Mathlib.Omega.{arith}
 use borrow.Author.Needs.{needs}
 use Rattle.request.proofs.request.Statement.{statement}
 use Rattle.request.proofs.request.Tie as tie
-use Rattle.request.proofs.request.Reads as reads
-use Rattle.request.proofs.request.Lts as lts
-use Rattle.records.proofs.write.add_grant.Reads as add-grant-reads
-use Rattle.request.proofs.grantable.Reads as grantable-reads
 
 -- what is lent
 abbrev lent-here : tie.Start → Lent
 lent-here s = lent-of (s .args .sig .now) (s .args .n) (s .args .ws .now)
+
+-- what is asked
+abbrev asked : tie.Start → Ask
+asked s = ask-of (s .args .operation) (s .args .extract) (s .args .delivery) (s .args .proof .now)
 
 grantable-requires : tie.Need-grantable-requires
 grantable-requires c κs = search needs
@@ -46,7 +47,7 @@ returns c =
     let at-grantable = c .before .before .before .before in
     let at-start = before-slice-known (before-grantable at-grantable) in
     let a = at-start .args in
-    request-refused (lent-here at-start) (a .register .now) (a .proof .now) (a .operation) (a .extract) (a .delivery)
+    request-refused (lent-here at-start) (a .register .now) (asked at-start)
     (at-grantable .grantable .result) (at-grantable .grantable .ensures) _ _ (c .enum-told2 .given .1)
 
 add-grant-requires : tie.Need-add-grant-requires
@@ -54,13 +55,12 @@ add-grant-requires c κs =
     let at-grantable = c .before .before .before .before .before in
     let s = before-slice-known (before-grantable at-grantable) in
     let a = s .args in
-    let G = grantable-now (lent-here s) (a .register .now) (a .proof .now) (a .operation) (a .extract) (a .delivery) (at-grantable .grantable .result)
+    let G = grantable-now (lent-here s) (a .register .now) (asked s) (at-grantable .grantable .result)
     (at-grantable .grantable .ensures) (c .before .enum-told .given .1) in (
       omega (arith, G .operation, G .proof .ready .not-more),
       G .extract,
       G .delivery,
-      grant-room (lent-here s) (a .register .now) (a .proof .now)
-          (a .operation) (a .extract) (a .delivery) (at-grantable .grantable .result) (at-grantable .grantable .ensures) (c .before .enum-told .given .1),
+      grant-room (lent-here s) (a .register .now) (asked s) (at-grantable .grantable .result) (at-grantable .grantable .ensures) (c .before .enum-told .given .1),
     )
 
 same-length-3 : tie.Need-same-length-3
@@ -74,7 +74,7 @@ returns-2 c =
     let at-grantable = before-match-keys1 (c .before .before .before .before .before) in
     let s = before-slice-known (before-grantable at-grantable) in
     let a = s .args in
-    request-granted (lent-here s) (a .register .now) (a .proof .now) (a .operation) (a .extract) (a .delivery) (at-grantable .grantable .result)
+    request-granted (lent-here s) (a .register .now) (asked s) (at-grantable .grantable .result)
     (at-grantable .grantable .ensures) (c .before .before .before .before .enum-told .given .1) _ (c .before .before .add-grant .ensures)
 
 pub request-spec : {M : Type 1} → statement M

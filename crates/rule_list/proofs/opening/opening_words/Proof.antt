@@ -96,8 +96,8 @@ is-held-requires c κs =
     let l = s .before .before .before .loop in
     let p = l .inv .1 .place in
     record {
-    found = each-once [] (p .before);
-    holds = holds-rules (start (s .before .before .before) .args .rules .now) (l .at) (p .before) (s .rules-before .ensures) (p .front)
+      found = each-once [] (p .before);
+      holds = holds-rules (start (s .before .before .before) .args .rules .now) (l .at) (p .before) (s .rules-before .ensures) (p .front);
     }
 
 add-total : tie.Need-add-total Inv-loop μ-loop
@@ -120,11 +120,10 @@ loop-less c = search needs
 loop-again : tie.Need-loop-again Inv-loop μ-loop
 loop-again c =
     let w = turning (c .before) in
-    let l = w .before .loop in
-    (
-    here w .fits,
-    counting-added (start (w .before) .args .rules .now) (l .at) (l .total) (l .inv .1) (w .loop-test .taken)
-        (sym (told (c .before)) ∙ not-true _ (c .if1 .taken)),
+    let l = w .before .loop in (
+      here w .fits,
+      counting-added (start (w .before) .args .rules .now) (l .at) (l .total) (l .inv .1) (w .loop-test .taken)
+          (sym (told (c .before)) ∙ not-true _ (c .if1 .taken)),
     )
 
 loop-less-2 : tie.Need-loop-less-2 Inv-loop μ-loop
@@ -133,11 +132,10 @@ loop-less-2 c = search needs
 loop-again-2 : tie.Need-loop-again-2 Inv-loop μ-loop
 loop-again-2 c =
     let w = turning (c .before) in
-    let l = w .before .loop in
-    (
-    here w .fits,
-    counting-held (start (w .before) .args .rules .now) (l .at) (l .total) (l .inv .1) (w .loop-test .taken)
-        (sym (told (c .before)) ∙ not-false _ (c .if1 .left)),
+    let l = w .before .loop in (
+      here w .fits,
+      counting-held (start (w .before) .args .rules .now) (l .at) (l .total) (l .inv .1) (w .loop-test .taken)
+          (sym (told (c .before)) ∙ not-false _ (c .if1 .left)),
     )
 
 returns : tie.Need-returns Inv-loop μ-loop
