@@ -11,9 +11,10 @@ use Rattle.rules.specs.declared.derivation.Verdict.the-variants.{Passed, Fault}
 use Rattle.rules.specs.Form.{verdict-answer}
 use Rattle.typing.specs.Check.{without-value}
 use Rattle.words.specs.Place.{written}
+use Rattle.register.specs.Records.{Ask}
 use Rattle.register.specs.Calls.{Lent, request-call, after-request}
 use Rattle.request.specs.Requested.{Requested}
-use Rattle.homes.specs.Homes.{formed, joined}
+use Rattle.homes.specs.Homes.{formed, joined, after-write}
 use Rattle.extract.specs.Extract.{extract-call, Extracted}
 
 -- a value put behind an answer, and taken away again
@@ -21,52 +22,61 @@ same-answer : (o : Result (Unit {0})) (xs : List ℕ) → without-value (o >> ok
 same-answer (ok x) xs = refl
 same-answer (refused m p) xs = refl
 
-module _ (l : Lent) (reg : List ℕ) (i v u : ℕ) (p hs t : List ℕ) (room : ℕ) where
+module _ (l : Lent) (reg : List ℕ) (k : Ask) (hs t : List ℕ) (room : ℕ) where
   abbrev by-form : Bool → Result (List ℕ)
-  by-form b = require b out-of-form 0 >> (request-call l reg i v u p >> ok (joined hs t))
+  by-form b = require b out-of-form 0 >> (request-call l reg k >> ok (joined hs t))
 
-  pub broken-form : formed hs t room ≡ false → extract-call l reg i v u p hs t room ≡ refused out-of-form 0
+  pub broken-form : formed hs t room ≡ false → extract-call l reg k hs t room ≡ refused out-of-form 0
   unfolding extract-call
   broken-form e = ap by-form e
 
-  pub right-form : formed hs t room ≡ true → extract-call l reg i v u p hs t room ≡ (request-call l reg i v u p >> ok (joined hs t))
+  pub right-form : formed hs t room ≡ true → extract-call l reg k hs t room ≡ (request-call l reg k >> ok (joined hs t))
   unfolding extract-call
   right-form e = ap by-form e
 
   -- in form, it answers what its request answers
-  pub request-answer : formed hs t room ≡ true → without-value (extract-call l reg i v u p hs t room) ≡ request-call l reg i v u p
-  request-answer e = ap without-value (right-form e) ∙ same-answer (request-call l reg i v u p) (joined hs t)
+  pub request-answer : formed hs t room ≡ true → without-value (extract-call l reg k hs t room) ≡ request-call l reg k
+  request-answer e = ap without-value (right-form e) ∙ same-answer (request-call l reg k) (joined hs t)
 
 -- ---- what the code leaves, by the answers of the functions that it calls
 
-module _ (l : Lent) (reg : List ℕ) (i v u : ℕ) (p hs t old : List ℕ) where
+module _ (l : Lent) (reg : List ℕ) (k : Ask) (hs t old : List ℕ) where
   abbrev call : Result (List ℕ)
-  call = extract-call l reg i v u p hs t (length old)
+  call = extract-call l reg k hs t (length old)
 
   -- the outcome known
-  told : (o : Result (List ℕ)) (new out : List ℕ) (r : Verdict) → call ≡ o → Extracted o reg i v u p new old out r → Extracted call reg i v u p new old out r
-  told o new out r e x = rw e x
+  record Known (o : Result (List ℕ)) (new out : List ℕ) (r : Verdict) : Type 0 where
+    pub answer : verdict-answer r ≡ without-value o
+    pub register : new ≡ after-request (without-value o) reg k
+    pub output : out ≡ after-write o old
 
-  pub not-formed : formed hs t (length old) ≡ false → Extracted call reg i v u p reg old old (Fault out-of-form 0)
+  told : (o : Result (List ℕ)) (new out : List ℕ) (r : Verdict) → call ≡ o → Known o new out r → Extracted l reg k hs t new old out r
+  told o new out r e x = record {
+    answer = x .answer ∙ sym (ap without-value e);
+    register = x .register ∙ sym (ap (λ (o : Result (List ℕ)). after-request (without-value o) reg k) e);
+    output = x .output ∙ sym (ap (λ (o : Result (List ℕ)). after-write o old) e);
+  }
+
+  pub not-formed : formed hs t (length old) ≡ false → Extracted l reg k hs t reg old old (Fault out-of-form 0)
   not-formed e =
-      told (refused out-of-form 0) reg old (Fault out-of-form 0) (broken-form l reg i v u p hs t (length old) e)
+      told (refused out-of-form 0) reg old (Fault out-of-form 0) (broken-form l reg k hs t (length old) e)
       record { answer = refl; register = refl; output = refl }
 
-  module _ (e : formed hs t (length old) ≡ true) (new : List ℕ) (r : Verdict) (q : Requested (request-call l reg i v u p) reg i v u p new r) where
+  module _ (e : formed hs t (length old) ≡ true) (new : List ℕ) (r : Verdict) (q : Requested l reg k new r) where
     -- the answer of the request, where the verdict is known
-    asked : (x : Verdict) → r ≡ x → request-call l reg i v u p ≡ verdict-answer x
+    asked : (x : Verdict) → r ≡ x → request-call l reg k ≡ verdict-answer x
     asked x f = sym (q .answer) ∙ ap verdict-answer f
 
     -- and then of the extract
     outcome : (x : Verdict) → r ≡ x → call ≡ (verdict-answer x >> ok (joined hs t))
-    outcome x f = right-form l reg i v u p hs t (length old) e ∙ ap (λ (o : Result (Unit {0})). o >> ok (joined hs t)) (asked x f)
+    outcome x f = right-form l reg k hs t (length old) e ∙ ap (λ (o : Result (Unit {0})). o >> ok (joined hs t)) (asked x f)
 
-    kept : (x : Verdict) → r ≡ x → new ≡ after-request (verdict-answer x) reg i v u p
-    kept x f = q .register ∙ ap (λ (o : Result (Unit {0})). after-request o reg i v u p) (asked x f)
+    kept : (x : Verdict) → r ≡ x → new ≡ after-request (verdict-answer x) reg k
+    kept x f = q .register ∙ ap (λ (o : Result (Unit {0})). after-request o reg k) (asked x f)
 
-    pub not-granted : (m place : ℕ) → r ≡ Fault m place → Extracted call reg i v u p new old old r
+    pub not-granted : (m place : ℕ) → r ≡ Fault m place → Extracted l reg k hs t new old old r
     not-granted m place f =
         told (refused m place) new old r (outcome (Fault m place) f) record { answer = ap verdict-answer f; register = kept (Fault m place) f; output = refl }
 
-    pub granted : (out : List ℕ) → r ≡ Passed → out ≡ written old 0 (joined hs t) → Extracted call reg i v u p new old out Passed
+    pub granted : (out : List ℕ) → r ≡ Passed → out ≡ written old 0 (joined hs t) → Extracted l reg k hs t new old out Passed
     granted out f w = told (ok (joined hs t)) new out Passed (outcome Passed f) record { answer = refl; register = kept Passed f; output = w }

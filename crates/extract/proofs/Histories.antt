@@ -7,7 +7,7 @@ use mathlib.Core.List.{List, [], _∷_, _++_, List·Permᴰ, List·Permᴰ·nil,
 use Rattle.logic.specs.Refusals.{out-of-form}
 use Rattle.logic.specs.Result.{Result, refused, pick}
 use Rattle.typing.specs.Check.{without-value}
-use Rattle.register.specs.Records.{register-records, written}
+use Rattle.register.specs.Records.{Ask, register-records, written}
 use Rattle.register.specs.Calls.{after-request}
 use Rattle.register.specs.History.{Setting, lent, Call, Reply, request, requested, reply, after, Refused, run, NoRefusal}
 use Rattle.register.proofs.Demand.{demand3}
@@ -18,27 +18,27 @@ use Rattle.extract.proofs.Extracts.{broken-form, request-answer}
 
 -- ---- one call
 
-module _ (s : Setting) (reg : List ℕ) (w i v u : ℕ) (p hs t : List ℕ) (room : ℕ) where
+module _ (s : Setting) (reg : List ℕ) (w : ℕ) (k : Ask) (hs t : List ℕ) (room : ℕ) where
   -- the register that it leaves and its answer, by its form
   by-form : (b : Bool) → formed hs t room ≡ b →
-      (desk-after s reg (extract w i v u p hs t room) ≡ run s reg (pick b (request w i v u p ∷ []) []))
-      × (desk-reply s reg (extract w i v u p hs t room) ≡ pick b (reply s reg (request w i v u p)) (requested (refused out-of-form 0)))
+      (desk-after s reg (extract w k hs t room) ≡ run s reg (pick b (request w k ∷ []) []))
+      × (desk-reply s reg (extract w k hs t room) ≡ pick b (reply s reg (request w k)) (requested (refused out-of-form 0)))
   unfolding run
   by-form true e =
-      let a = request-answer (lent s w) reg i v u p hs t room e in
-      (ap (λ (o : Result (Unit {0})). after-request o reg i v u p) a, ap requested a)
+      let a = request-answer (lent s w) reg k hs t room e in
+      (ap (λ (o : Result (Unit {0})). after-request o reg k) a, ap requested a)
   by-form false e =
-      let a = broken-form (lent s w) reg i v u p hs t room e in
-      (ap (λ (o : Result (List ℕ)). after-request (without-value o) reg i v u p) a, ap (λ (o : Result (List ℕ)). requested (without-value o)) a)
+      let a = broken-form (lent s w) reg k hs t room e in
+      (ap (λ (o : Result (List ℕ)). after-request (without-value o) reg k) a, ap (λ (o : Result (List ℕ)). requested (without-value o)) a)
 
 call-after : (s : Setting) (reg : List ℕ) (c : DeskCall) → desk-after s reg c ≡ run s reg (as-request c)
 unfolding run
 call-after s reg (plain c) = refl
-call-after s reg (extract w i v u p hs t room) = by-form s reg w i v u p hs t room (formed hs t room) refl .0
+call-after s reg (extract w k hs t room) = by-form s reg w k hs t room (formed hs t room) refl .0
 
 call-reply : (s : Setting) (reg : List ℕ) (c : DeskCall) → desk-reply s reg c ≡ reply-as-request s reg c
 call-reply s reg (plain c) = refl
-call-reply s reg (extract w i v u p hs t room) = by-form s reg w i v u p hs t room (formed hs t room) refl .1
+call-reply s reg (extract w k hs t room) = by-form s reg w k hs t room (formed hs t room) refl .1
 
 -- ---- the list
 
@@ -86,10 +86,10 @@ none-append s reg (c ∷ cs) ds m n = (m .0, none-append s (after s reg c) cs ds
 none-first : (s : Setting) (reg : List ℕ) (c : DeskCall) → (Refused (desk-reply s reg c) → ⊥) → NoRefusal s reg (as-request c)
 unfolding NoRefusal
 none-first s reg (plain c) n = (n, tt)
-none-first s reg (extract w i v u p hs t room) n = go (formed hs t room) refl
+none-first s reg (extract w k hs t room) n = go (formed hs t room) refl
   where
-    go : (b : Bool) → formed hs t room ≡ b → NoRefusal s reg (pick b (request w i v u p ∷ []) [])
-    go true e = (λ r. n (rw (by-form s reg w i v u p hs t room true e .1) r), tt)
+    go : (b : Bool) → formed hs t room ≡ b → NoRefusal s reg (pick b (request w k ∷ []) [])
+    go true e = (λ r. n (rw (by-form s reg w k hs t room true e .1) r), tt)
     go false e = tt
 
 none-refused : (s : Setting) (reg : List ℕ) (cs : List DeskCall) → NoDeskRefusal s reg cs → NoRefusal s reg (as-requests cs)

@@ -6,7 +6,7 @@ use lib.ListN.{length}
 use Rattle.logic.specs.Refusals.{out-of-form}
 use Rattle.logic.specs.Result.{ok, refused, pick}
 use Rattle.typing.specs.Check.{without-value}
-use Rattle.register.specs.Records.{Record, register-records, written}
+use Rattle.register.specs.Records.{Record, Ask, register-records, written}
 use Rattle.register.specs.Calls.{after-request, open-call}
 use Rattle.register.specs.History.{Setting, lent, Call, Reply, request, requested, reply, after, Refused, run, read-off, Demand, Reordered}
 use Rattle.homes.specs.Homes.{formed}
@@ -15,17 +15,17 @@ use Rattle.extract.specs.Extract.{extract-call}
 -- a say or a request, or an extract with its list, its table and the words of its output
 pub data DeskCall : Type 0 where
   plain : Call → DeskCall
-  extract : (workspace i v u : ℕ) (proof homes surveys : List ℕ) (room : ℕ) → DeskCall
+  extract : (workspace : ℕ) → Ask → (homes surveys : List ℕ) (room : ℕ) → DeskCall
 
 -- what a call answers; an extract as a request does, but for the words that it writes
 abbrev pub desk-reply : Setting → List ℕ → DeskCall → Reply
 desk-reply s reg (plain c) = reply s reg c
-desk-reply s reg (extract w i v u p hs t room) = requested (without-value (extract-call (lent s w) reg i v u p hs t room))
+desk-reply s reg (extract w k hs t room) = requested (without-value (extract-call (lent s w) reg k hs t room))
 
 -- the register that a call leaves
 abbrev pub desk-after : Setting → List ℕ → DeskCall → List ℕ
 desk-after s reg (plain c) = after s reg c
-desk-after s reg (extract w i v u p hs t room) = after-request (without-value (extract-call (lent s w) reg i v u p hs t room)) reg i v u p
+desk-after s reg (extract w k hs t room) = after-request (without-value (extract-call (lent s w) reg k hs t room)) reg k
 
 -- each call gets the register as the one before left it
 unfoldable pub desk-run : Setting → List ℕ → List DeskCall → List ℕ
@@ -41,7 +41,7 @@ desk-answers s reg (c ∷ cs) = desk-reply s reg c ∷ desk-answers s (desk-afte
 -- an extract as its request, and as nothing where its form is broken
 abbrev pub as-request : DeskCall → List Call
 as-request (plain c) = c ∷ []
-as-request (extract w i v u p hs t room) = pick (formed hs t room) (request w i v u p ∷ []) []
+as-request (extract w k hs t room) = pick (formed hs t room) (request w k ∷ []) []
 
 unfoldable pub as-requests : List DeskCall → List Call
 as-requests [] = []
@@ -50,7 +50,7 @@ as-requests (c ∷ cs) = as-request c ++ as-requests cs
 -- what a call answers then: 21 where the form is broken
 abbrev pub reply-as-request : Setting → List ℕ → DeskCall → Reply
 reply-as-request s reg (plain c) = reply s reg c
-reply-as-request s reg (extract w i v u p hs t room) = pick (formed hs t room) (reply s reg (request w i v u p)) (requested (refused out-of-form 0))
+reply-as-request s reg (extract w k hs t room) = pick (formed hs t room) (reply s reg (request w k)) (requested (refused out-of-form 0))
 
 unfoldable pub answers-as-requests : Setting → List ℕ → List DeskCall → List Reply
 answers-as-requests s reg [] = []

@@ -5,19 +5,24 @@ use mathlib.Core.List.{List, [], _∷_}
 use Rattle.logic.specs.Result.{ok, refused}
 use Rattle.logic.specs.Term.{encode}
 use Rattle.logic.specs.Worked.{p}
+use Rattle.register.specs.Records.{Ask, ask-of}
 use Rattle.register.specs.History.{requested, lent, run}
 use Rattle.register.specs.Worked.{setting, opened, say-consent, request-extract}
 use Rattle.homes.specs.Homes.{after-write}
 use Rattle.extract.specs.Extract.{extract-call}
 use Rattle.extract.specs.Desk.{DeskCall, extract, desk-run, desk-answers}
 
--- document 01's request as an extract: three homes and one survey
+-- document 01's request
+abbrev pub asked : Ask
+asked = ask-of 0 7 9 (encode p)
+
+-- as an extract: three homes and one survey
 abbrev pub three-homes : (workspace room : ℕ) → DeskCall
-three-homes w room = extract w 0 7 9 (encode p) (1 ∷ 2 ∷ 4294967295 ∷ []) (2 ∷ 50 ∷ []) room
+three-homes w room = extract w asked (1 ∷ 2 ∷ 4294967295 ∷ []) (2 ∷ 50 ∷ []) room
 
 -- a list that does not rise
 abbrev pub equal-homes : (workspace room : ℕ) → DeskCall
-equal-homes w room = extract w 0 7 9 (encode p) (1 ∷ 2 ∷ 2 ∷ []) (2 ∷ 50 ∷ []) room
+equal-homes w room = extract w asked (1 ∷ 2 ∷ 2 ∷ []) (2 ∷ 50 ∷ []) room
 
 -- behind the rule and the say, on a register of so many words
 abbrev pub held-by : ℕ → List ℕ
@@ -26,9 +31,9 @@ held-by len = run setting (opened len) (say-consent ∷ [])
 pub record ExtractGuards : Type 0 where
   -- "After a grant it writes every home in the list's order with its survey code, or 4294967295 where no survey exists";
   -- "output past the last home is unchanged"
-  pub granted : extract-call (lent setting 12288) (held-by 64) 0 7 9 (encode p) (1 ∷ 2 ∷ 4294967295 ∷ []) (2 ∷ 50 ∷ []) 7
+  pub granted : extract-call (lent setting 12288) (held-by 64) asked (1 ∷ 2 ∷ 4294967295 ∷ []) (2 ∷ 50 ∷ []) 7
       ≡ ok (1 ∷ 4294967295 ∷ 2 ∷ 50 ∷ 4294967295 ∷ 4294967295 ∷ [])
-  pub written : after-write (extract-call (lent setting 12288) (held-by 64) 0 7 9 (encode p) (1 ∷ []) (1 ∷ 50 ∷ []) 3) (7 ∷ 8 ∷ 9 ∷ []) ≡ 1 ∷ 50 ∷ 9 ∷ []
+  pub written : after-write (extract-call (lent setting 12288) (held-by 64) asked (1 ∷ []) (1 ∷ 50 ∷ []) 3) (7 ∷ 8 ∷ 9 ∷ []) ≡ 1 ∷ 50 ∷ 9 ∷ []
   -- "one request for the extract": the register is the one that the request leaves
   pub register : desk-run setting (held-by 64) (three-homes 12288 6 ∷ []) ≡ run setting (held-by 64) (request-extract ∷ [])
   -- "is refused with 21 before the request is tried", before the workspace's test too
@@ -40,5 +45,5 @@ pub record ExtractGuards : Type 0 where
   pub no-room : desk-answers setting (held-by 63) (three-homes 12288 6 ∷ []) ≡ requested (refused 16 0) ∷ []
   pub not-said : desk-answers setting (opened 64) (three-homes 12288 6 ∷ []) ≡ requested (refused 14 23) ∷ []
   -- "A refused request writes nothing"
-  pub not-written : after-write (extract-call (lent setting 12287) (held-by 64) 0 7 9 (encode p) (1 ∷ []) (1 ∷ 50 ∷ []) 3) (7 ∷ 8 ∷ 9 ∷ []) ≡ 7 ∷ 8 ∷ 9 ∷ []
+  pub not-written : after-write (extract-call (lent setting 12287) (held-by 64) asked (1 ∷ []) (1 ∷ 50 ∷ []) 3) (7 ∷ 8 ∷ 9 ∷ []) ≡ 7 ∷ 8 ∷ 9 ∷ []
   pub register-kept : desk-run setting (held-by 63) (equal-homes 12288 6 ∷ three-homes 12288 6 ∷ []) ≡ held-by 63

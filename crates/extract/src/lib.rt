@@ -5,9 +5,9 @@ use homes::well_formed;
 use logic::refusal::OUT_OF_FORM;
 use request::request;
 use rules::derivation::Verdict;
-ghost use lib.ListN.{length};
+ghost use Rattle.register.specs.Records.{ask-of};
 ghost use Rattle.calls.specs.Shared.{lent-of};
-ghost use Rattle.extract.specs.Extract.{extract-call, Extracted};
+ghost use Rattle.extract.specs.Extract.{Extracted};
 
 // First the form, then the request; the output is written behind the grant.
 pub fn extract(
@@ -23,10 +23,9 @@ pub fn extract(
     surveys: &[u32],
     out: &mut [u32],
 ) -> Verdict
-    ensures { λ r. ⌜ Extracted
-        (extract-call (lent-of (now (sig .entry)) n (now (ws .entry))) (now (register .entry)) operation extract delivery
-        (now (proof .entry)) (now (homes .entry)) (now (surveys .entry)) (length (now (out .entry))))
-        (now (register .entry)) operation extract delivery (now (proof .entry)) (now (register .exit)) (now (out .entry)) (now (out .exit)) r ⌝ }
+    ensures { λ r. ⌜ Extracted (lent-of (now (sig .entry)) n (now (ws .entry))) (now (register .entry))
+        (ask-of operation extract delivery (now (proof .entry))) (now (homes .entry)) (now (surveys .entry))
+        (now (register .exit)) (now (out .entry)) (now (out .exit)) r ⌝ }
 {
     let fine = well_formed(homes, surveys, out.len());
     if !fine {

@@ -4,6 +4,7 @@ use mathlib.Core.Path.{_≡_, sym, _∙_}
 use lib.ListN.{length}
 use borrow.Author.Tests.{not-true, not-false}
 use borrow.Author.Needs.{needs}
+use Rattle.register.specs.Records.{Ask, ask-of}
 use Rattle.register.specs.Calls.{Lent}
 use Rattle.calls.specs.Shared.{lent-of}
 use Rattle.homes.specs.Homes.{formed}
@@ -36,6 +37,9 @@ matched c = c .before .before .before
 abbrev lent-here : tie.Start → Lent
 lent-here s = lent-of (s .args .sig .now) (s .args .n) (s .args .ws .now)
 
+abbrev asked-for : tie.Start → Ask
+asked-for s = ask-of (s .args .operation) (s .args .extract) (s .args .delivery) (s .args .proof .now)
+
 -- behind the test, the form holds
 in-form : (c : tie.After-request) →
     formed (start (tested c) .args .homes .now) (start (tested c) .args .surveys .now) (length (start (tested c) .args .out .now)) ≡ true
@@ -50,7 +54,7 @@ returns : tie.Need-returns
 returns c =
     let s = start (c .before) in
     let a = s .args in
-    not-formed (lent-here s) (a .register .now) (a .operation) (a .extract) (a .delivery) (a .proof .now) (a .homes .now) (a .surveys .now) (a .out .now)
+    not-formed (lent-here s) (a .register .now) (asked-for s) (a .homes .now) (a .surveys .now) (a .out .now)
     (sym (c .before .well-formed .ensures) ∙ not-true _ (c .if1 .taken))
 
 request-requires : tie.Need-request-requires
@@ -73,7 +77,7 @@ returns-2 c =
     let r = asked (c .before .before) in
     let s = start (tested r) in
     let a = s .args in
-    not-granted (lent-here s) (a .register .now) (a .operation) (a .extract) (a .delivery) (a .proof .now) (a .homes .now) (a .surveys .now) (a .out .now)
+    not-granted (lent-here s) (a .register .now) (asked-for s) (a .homes .now) (a .surveys .now) (a .out .now)
     (in-form r) _ (r .request .result) (r .request .ensures) _ _ (c .enum-told2 .given .1)
 
 join-requires : tie.Need-join-requires
@@ -95,7 +99,7 @@ returns-3 c =
     let r = asked (matched g) in
     let s = start (tested r) in
     let a = s .args in
-    granted (lent-here s) (a .register .now) (a .operation) (a .extract) (a .delivery) (a .proof .now) (a .homes .now) (a .surveys .now) (a .out .now)
+    granted (lent-here s) (a .register .now) (asked-for s) (a .homes .now) (a .surveys .now) (a .out .now)
     (in-form r) _ (r .request .result) (r .request .ensures) _ (g .before .enum-told .given .1) (j .join .ensures)
 
 pub extract-spec : {M : Type 1} → statement M
