@@ -16,6 +16,7 @@ use Rattle.rules.specs.declared.derivation.Verdict.the-variants.{Passed, Fault}
 use Rattle.rules.specs.Form.{verdict-answer}
 use Rattle.typing.specs.Check.{Judged, without-value}
 use Rattle.typing.proofs.Verdicts.{passed-told}
+use Rattle.register.specs.Records.{Statement, Ask}
 use Rattle.register.specs.Calls.{Lent, open-call, say-call, request-call, check-call}
 use Rattle.register.proofs.Bounds.{Number, open-bound, say-bound, request-bound, check-bound}
 use Rattle.calls.proofs.Checks.{words-within, handed-type, handed-nothing}
@@ -61,35 +62,38 @@ module _ (o : Result (Unit {0})) (r : Verdict) (v : verdict-answer r ≡ o) wher
 pub open-fits : (l : Lent) (reg rules : List ℕ) (m p : ℕ) → length (l .sig) + length rules < place-limit → open-call l reg rules ≡ refused m p → Fits m p
 open-fits l reg rules m p h e = let (n, q) = open-bound l reg rules e in omega arith
 
-pub request-fits : (l : Lent) (reg : List ℕ) (i v u : ℕ) (proof : List ℕ) (m p : ℕ) → length (l .sig) + length proof < place-limit → request-call l reg i v u proof ≡ refused m p → Fits m p
-request-fits l reg i v u proof m p h e = let (n, q) = request-bound l reg i v u proof e in omega arith
+pub request-fits : (l : Lent) (reg : List ℕ) (k : Ask) (m p : ℕ) → length (l .sig) + length (k .proof) < place-limit → request-call l reg k ≡ refused m p → Fits m p
+request-fits l reg k m p h e = let (n, q) = request-bound l reg k e in omega arith
 
 -- ---- extract
 
-pub extract-fits : (l : Lent) (reg : List ℕ) (i v u : ℕ) (proof homes surveys : List ℕ) (room m p : ℕ) → length (l .sig) + length proof < place-limit →
-    extract-call l reg i v u proof homes surveys room ≡ refused m p → Fits m p
-extract-fits l reg i v u proof homes surveys room m p h e = let (n, q) = extract-bound l reg i v u proof homes surveys room e in omega arith
+pub extract-fits : (l : Lent) (reg : List ℕ) (k : Ask) (homes surveys : List ℕ) (room m p : ℕ) → length (l .sig) + length (k .proof) < place-limit →
+    extract-call l reg k homes surveys room ≡ refused m p → Fits m p
+extract-fits l reg k homes surveys room m p h e = let (n, q) = extract-bound l reg k homes surveys room e in omega arith
 
 -- ---- say
 
-module _ (o : Result Bool) (old : List ℕ) (a : ℕ) (q new : List ℕ) (r : Said) (S : Says-so o old a q new r) where
+module _ (l : Lent) (old : List ℕ) (st : Statement) (new : List ℕ) (r : Said) (S : Says-so l old st new r) where
+  abbrev o : Result Bool
+  o = say-call l old st
+
   told : {x : Said} → r ≡ x → said-answer x ≡ o
   told f = sym (ap said-answer f) ∙ S .answer
 
-  pub said-added : r ≡ Added → Said-to o old a q new 1 0
+  pub said-added : r ≡ Added → Said-to l old st new 1 0
   said-added f = let e = told f in record { answer = ap code-of e; register = S .register; added-is = ap added-of e }
 
-  pub said-held : r ≡ Held → Said-to o old a q new 0 0
+  pub said-held : r ≡ Held → Said-to l old st new 0 0
   said-held f = let e = told f in record { answer = ap code-of e; register = S .register; added-is = ap added-of e }
 
   pub unsaid-is : (m p : ℕ) → r ≡ Not-said m p → o ≡ refused m p
   unsaid-is m p f = sym (told f)
 
-  pub said-nothing : (m p : ℕ) → r ≡ Not-said m p → (code : ℕ) → code ≡ m * number-unit + p → Said-to o old a q new 0 code
+  pub said-nothing : (m p : ℕ) → r ≡ Not-said m p → (code : ℕ) → code ≡ m * number-unit + p → Said-to l old st new 0 code
   said-nothing m p f code c = let e = unsaid-is m p f in record { answer = refused-code o m p code e c; register = S .register; added-is = sym (ap added-of e) }
 
-pub say-fits : (l : Lent) (reg : List ℕ) (a : ℕ) (q : List ℕ) (m p : ℕ) → length (l .sig) + length q < place-limit → say-call l reg a q ≡ refused m p → Fits m p
-say-fits l reg a q m p h e = let (n, b) = say-bound l reg a q e in omega arith
+pub say-fits : (l : Lent) (reg : List ℕ) (st : Statement) (m p : ℕ) → length (l .sig) + length (st .words) < place-limit → say-call l reg st ≡ refused m p → Fits m p
+say-fits l reg st m p h e = let (n, b) = say-bound l reg st e in omega arith
 
 -- ---- check
 

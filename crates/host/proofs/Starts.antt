@@ -5,24 +5,26 @@ use mathlib.Core.Path.{_≡_, refl, sym, ap, ap₂, _∙_}
 use mathlib.Core.Bool.{_&&_}
 use mathlib.Core.List.{List, [], _∷_}
 use lib.Dec.{leb}
-use lib.ListN.{length, take, drop, getD, getElem?, length-append, take-append-drop}
+use lib.ListN.{length, take, drop, getElem?, length-append, take-append-drop}
 use lib.Seq.{take-at}
 use borrow.Author.Tests.{leb-true}
-use Rattle.logic.specs.Limits.{least-register, most-register}
+use Rattle.logic.specs.Limits.{most-register}
 use Rattle.logic.specs.Refusals.{past-last-record, last-number}
 use Rattle.logic.specs.Result.{Result, ok, refused, _>>=_, _>>_, known, number-of}
 use Rattle.logic.proofs.Basics.{clash}
 use Rattle.logic.proofs.Results.{bound, tested, found, both-true}
-use Rattle.register.specs.Records.{Record, header, words-of, register-records}
+use Rattle.register.specs.Records.{Record, record-head, header, words-of, used-by, register-records}
 use Rattle.register.specs.Calls.{read-call}
 use Rattle.register.proofs.Bounds.{read-bound}
 use Rattle.register.proofs.Words.{words-append}
-use Rattle.records.specs.Answers.{From, Among, body-of, kind-of}
-use Rattle.records.proofs.Stands.{Reached, from-start, reached-bounds, read-there}
-use Rattle.host.specs.Answers.{number-unit, code-of, record-head, start-of, Read-to}
+use Rattle.records.specs.Items.{part-from, part-to}
+use Rattle.records.specs.Answers.{RecordsAt, Among, body-of, kind-of}
+use Rattle.records.proofs.Items.{records-there}
+use Rattle.records.proofs.ReadAnswers.{Reached, reached-bounds, read-there}
+use Rattle.host.specs.Answers.{number-unit, code-of, start-of, Read-to}
 
 -- the records before k fill the words up to it
-start-from : (reg : List ℕ) (rs : List Record) (at k : ℕ) → From reg header rs → From reg at (drop k rs) → at ≡ header + length (words-of (take k rs))
+start-from : (reg : List ℕ) (rs : List Record) (at k : ℕ) → RecordsAt reg header rs → RecordsAt reg at (drop k rs) → at ≡ used-by (take k rs)
 start-from reg rs at k f g =
     let w : length (words-of rs) ≡ length (words-of (take k rs)) + length (words-of (drop k rs)) =
     ap (λ (l : List Record). length (words-of l)) (sym (take-append-drop k rs)) ∙ ap length (words-append (take k rs) (drop k rs)) ∙ length-append (words-of (take k rs)) (words-of (drop k rs)) in
@@ -36,7 +38,7 @@ entry-within (x ∷ rs) (suc k) e = let h = entry-within rs k e in omega arith
 
 -- where a body starts, by what is read of the record and of all records
 abbrev start-by : ℕ → Result Record → Result (List Record) → ℕ
-start-by k x y = start-of (x >> (y >>= λ rs. ok (header + length (words-of (take k rs)) + record-head)))
+start-by k x y = start-of (x >> (y >>= λ rs. ok (used-by (take k rs) + record-head)))
 
 -- a part has its own length
 part-words : (xs : List ℕ) (j : ℕ) → take (length (take j xs)) xs ≡ take j xs
@@ -45,7 +47,7 @@ part-words xs j = ap (λ (l : List ℕ). take (length (take j xs)) l) (sym (take
 -- a record that is read is among the register's
 pub record Present (reg : List ℕ) (k : ℕ) : Type 0 where
   pub among : Among reg k
-  pub not-shorter : least-register ≤ length reg
+  pub not-shorter : header ≤ length reg
   pub not-longer : length reg ≤ most-register
 
 module _ (reg : List ℕ) (k m : ℕ) (n : m ≡ number-of (read-call reg k)) where
@@ -78,9 +80,9 @@ module _ (reg : List ℕ) (k m : ℕ) (n : m ≡ number-of (read-call reg k)) wh
       go : (x : Result Record) → read-call reg k ≡ x → m ≡ number-of x → Present reg k
       go (refused m′ p) e f = let (l, q) = read-bound reg k e in absurd (omega arith)
       go (ok r) e f =
-          tested (leb least-register (length reg) && leb (length reg) most-register) _ _ _ e λ range e₁. bound (register-records reg) _ e₁ λ rs u e₂.
-          let (low, high) = both-true (leb least-register (length reg)) (leb (length reg) most-register) range in
-          record { among = record { found = rs; reads = u; present = entry-within rs k e₂ }; not-shorter = leb-true least-register (length reg) low; not-longer = leb-true (length reg) most-register high }
+          tested (leb header (length reg) && leb (length reg) most-register) _ _ _ e λ range e₁. bound (register-records reg) _ e₁ λ rs u e₂.
+          let (low, high) = both-true (leb header (length reg)) (leb (length reg) most-register) range in
+          record { among = record { found = rs; reads = u; present = entry-within rs k e₂ }; not-shorter = leb-true header (length reg) low; not-longer = leb-true (length reg) most-register high }
 
 module _ (reg : List ℕ) (k : ℕ) (P : Present reg k) (at : ℕ) (R : Reached reg at k) where
   pub start-fits : at + record-head ≤ length reg
@@ -91,13 +93,13 @@ module _ (reg : List ℕ) (k : ℕ) (P : Present reg k) (at : ℕ) (R : Reached 
   read-to kind body e b =
       let A = P .among in
       let r = read-there reg at k (P .not-shorter) (P .not-longer) A R in
-      let s : at ≡ header + length (words-of (take k (A .found))) = start-from reg (A .found) at k (from-start reg (A .found) (A .reads)) (R (A .found) (A .reads)) in
-      let j : ℕ = at + 2 + getD reg (at + 1) 0 - (at + 2) in
-      let z : body ≡ take j (drop (at + 2) reg) = b ∙ ap body-of (sym r) in
+      let s : at ≡ used-by (take k (A .found)) = start-from reg (A .found) at k (records-there reg (A .found) (A .reads)) (R (A .found) (A .reads)) in
+      let j : ℕ = part-to reg at - part-from at in
+      let z : body ≡ take j (drop (part-from at) reg) = b ∙ ap body-of (sym r) in
       record {
         answer = ap code-of r;
         kind-is = e;
         start-is = ap (λ (i : ℕ). i + record-head) s ∙ ap₂ (start-by k) r (sym (A .reads));
         words-are = ap length b;
-        body = ap (λ (l : List ℕ). take (length l) (drop (at + 2) reg)) z ∙ part-words (drop (at + 2) reg) j ∙ sym z ∙ b;
+        body = ap (λ (l : List ℕ). take (length l) (drop (part-from at) reg)) z ∙ part-words (drop (part-from at) reg) j ∙ sym z ∙ b;
       }

@@ -6,12 +6,13 @@ use mathlib.Core.List.{List}
 use lib.ListN.{length, take, drop}
 use Rattle.logic.specs.Result.{Result, ok, refused, _>>=_, _>>_}
 use Rattle.logic.specs.Term.{Term}
-use Rattle.register.specs.Records.{Record, header, words-of, register-records}
-use Rattle.register.specs.Calls.{read-call, after-open, after-say, after-request}
+use Rattle.register.specs.Records.{Statement, Ask, record-head, used-by, register-records}
+use Rattle.register.specs.Calls.{Lent, open-call, after-open, say-call, after-say, request-call, after-request, read-call}
 use Rattle.records.specs.Answers.{body-of, kind-of}
 use Rattle.typing.specs.Check.{without-value}
 use Rattle.calls.specs.Answers.{type-of}
 use Rattle.homes.specs.Homes.{after-write}
+use Rattle.extract.specs.Extract.{extract-call}
 
 -- "the refusal number times 4294967296 plus the place"
 abbrev pub number-unit : ℕ
@@ -26,9 +27,9 @@ code-of (ok x) = 0
 code-of (refused m p) = m * number-unit + p
 
 -- an open
-pub record Opened-to (o : Result (List Record)) (old new : List ℕ) (code : ℕ) : Type 0 where
-  pub answer : code ≡ code-of o
-  pub register : new ≡ after-open o old
+pub record Opened-to (l : Lent) (old rules new : List ℕ) (code : ℕ) : Type 0 where
+  pub answer : code ≡ code-of (open-call l old rules)
+  pub register : new ≡ after-open (open-call l old rules) old
 
 -- a say: 1 where it added a record, else 0
 abbrev pub added-of : Result Bool → ℕ
@@ -36,21 +37,21 @@ added-of (ok true) = 1
 added-of (ok false) = 0
 added-of (refused m p) = 0
 
-pub record Said-to (o : Result Bool) (old : List ℕ) (a : ℕ) (q new : List ℕ) (added code : ℕ) : Type 0 where
-  pub answer : code ≡ code-of o
-  pub register : new ≡ after-say o old a q
-  pub added-is : added ≡ added-of o
+pub record Said-to (l : Lent) (old : List ℕ) (st : Statement) (new : List ℕ) (added code : ℕ) : Type 0 where
+  pub answer : code ≡ code-of (say-call l old st)
+  pub register : new ≡ after-say (say-call l old st) old st
+  pub added-is : added ≡ added-of (say-call l old st)
 
 -- a request
-pub record Requested-to (o : Result (Unit {0})) (old : List ℕ) (i v u : ℕ) (p new : List ℕ) (code : ℕ) : Type 0 where
-  pub answer : code ≡ code-of o
-  pub register : new ≡ after-request o old i v u p
+pub record Requested-to (l : Lent) (old : List ℕ) (k : Ask) (new : List ℕ) (code : ℕ) : Type 0 where
+  pub answer : code ≡ code-of (request-call l old k)
+  pub register : new ≡ after-request (request-call l old k) old k
 
 -- an extract: also the output
-pub record Extracted-to (o : Result (List ℕ)) (reg : List ℕ) (i v u : ℕ) (p new old out : List ℕ) (code : ℕ) : Type 0 where
-  pub answer : code ≡ code-of o
-  pub register : new ≡ after-request (without-value o) reg i v u p
-  pub output : out ≡ after-write o old
+pub record Extracted-to (l : Lent) (reg : List ℕ) (k : Ask) (homes surveys new old out : List ℕ) (code : ℕ) : Type 0 where
+  pub answer : code ≡ code-of (extract-call l reg k homes surveys (length old))
+  pub register : new ≡ after-request (without-value (extract-call l reg k homes surveys (length old))) reg k
+  pub output : out ≡ after-write (extract-call l reg k homes surveys (length old)) old
 
 -- a check that tells where the type stands: the first words of the workspace, none where refused
 pub record Typed-to (o : Result Term) (workspace : List ℕ) (words code : ℕ) : Type 0 where
@@ -58,16 +59,12 @@ pub record Typed-to (o : Result Term) (workspace : List ℕ) (words code : ℕ) 
   pub words-are : words ≡ length (type-of o)
   pub type : take words workspace ≡ type-of o
 
--- "A record is kind, body length, body": the words before the body
-abbrev pub record-head : ℕ
-record-head = 2
-
 -- where the body of record k starts in the register
 abbrev pub body-start : List ℕ → ℕ → Result ℕ
 body-start reg k = do
   read-call reg k
   rs ← register-records reg
-  ok (header + length (words-of (take k rs)) + record-head)
+  ok (used-by (take k rs) + record-head)
 
 abbrev pub start-of : Result ℕ → ℕ
 start-of (ok n) = n

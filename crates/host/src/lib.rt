@@ -1,5 +1,6 @@
-// "A host program in C calls check and request": extern "C" entry points on numbers and lent slices, thin over the proved check and request, and over
-// open, say and read alike. include/aura0.h declares them. An answer is the refusal's number times 4294967296 plus the place, 0 for success.
+// "A host program in C calls check and request": extern "C" entry points on numbers and lent slices, thin over the proved
+// check and request, and over open, say and read alike. include/aura0.h declares them. An answer is the refusal's number
+// times 4294967296 plus the place, 0 for success.
 use calls::check::check;
 use calls::check::judge;
 use open::open;
@@ -13,12 +14,12 @@ use say::Said;
 use say::say;
 ghost use mathlib.Core.Path.{_≡_};
 ghost use Prim.Native.Nat.{_+_, _*_, _≤_, _<_};
-ghost use lib.ListN.{length};
 ghost use Rattle.logic.specs.Refusals.{last-number};
-ghost use Rattle.register.specs.Calls.{open-call, say-call, request-call, check-call};
+ghost use Rattle.register.specs.Records.{statement-of, ask-of};
+ghost use Rattle.register.specs.Calls.{check-call};
 ghost use Rattle.calls.specs.Shared.{lent-of};
-ghost use Rattle.extract.specs.Extract.{extract-call};
-ghost use Rattle.host.specs.Answers.{number-unit, place-limit, code-of, Opened-to, Said-to, Requested-to, Extracted-to, Typed-to, Read-to};
+ghost use Rattle.host.specs.Answers.{number-unit, place-limit, code-of};
+ghost use Rattle.host.specs.Answers.{Opened-to, Said-to, Requested-to, Extracted-to, Typed-to, Read-to};
 
 // What a refusal's number is multiplied by.
 const NUMBER_UNIT: u64 = 4294967296;
@@ -39,7 +40,8 @@ pub extern "C" fn aura0_open(
     rules: &[u32],
     workspace: &mut [u32],
 ) -> u64
-    ensures { λ r. ⌜ Opened-to (open-call (lent-of (now (signature .entry)) n (length (now (workspace .entry)))) (now (register .entry)) (now (rules .entry))) (now (register .entry)) (now (register .exit)) r ⌝ }
+    ensures { λ r. ⌜ Opened-to (lent-of (now (signature .entry)) n (now (workspace .entry))) (now (register .entry)) (now (rules .entry))
+        (now (register .exit)) r ⌝ }
 {
     let verdict = open(signature, n, register, rules, workspace);
     match verdict {
@@ -59,7 +61,8 @@ pub extern "C" fn aura0_say(
     workspace: &mut [u32],
     added: &mut u32,
 ) -> u64
-    ensures { λ r. ⌜ Said-to (say-call (lent-of (now (signature .entry)) n (length (now (workspace .entry)))) (now (register .entry)) principal (now (proposition .entry))) (now (register .entry)) principal (now (proposition .entry)) (now (register .exit)) (now (added .exit)) r ⌝ }
+    ensures { λ r. ⌜ Said-to (lent-of (now (signature .entry)) n (now (workspace .entry))) (now (register .entry))
+        (statement-of principal (now (proposition .entry))) (now (register .exit)) (now (added .exit)) r ⌝ }
 {
     let said = say(signature, n, register, principal, proposition, workspace);
     match said {
@@ -90,7 +93,8 @@ pub extern "C" fn aura0_request(
     proof: &[u32],
     workspace: &mut [u32],
 ) -> u64
-    ensures { λ r. ⌜ Requested-to (request-call (lent-of (now (signature .entry)) n (length (now (workspace .entry)))) (now (register .entry)) operation extract delivery (now (proof .entry))) (now (register .entry)) operation extract delivery (now (proof .entry)) (now (register .exit)) r ⌝ }
+    ensures { λ r. ⌜ Requested-to (lent-of (now (signature .entry)) n (now (workspace .entry))) (now (register .entry))
+        (ask-of operation extract delivery (now (proof .entry))) (now (register .exit)) r ⌝ }
 {
     let verdict = request(
         signature,
@@ -124,10 +128,9 @@ pub extern "C" fn aura0_extract(
     output: &mut [u32],
     workspace: &mut [u32],
 ) -> u64
-    ensures { λ r. ⌜ Extracted-to
-        (extract-call (lent-of (now (signature .entry)) n (length (now (workspace .entry)))) (now (register .entry)) operation extract delivery
-        (now (proof .entry)) (now (homes .entry)) (now (surveys .entry)) (length (now (output .entry))))
-        (now (register .entry)) operation extract delivery (now (proof .entry)) (now (register .exit)) (now (output .entry)) (now (output .exit)) r ⌝ }
+    ensures { λ r. ⌜ Extracted-to (lent-of (now (signature .entry)) n (now (workspace .entry))) (now (register .entry))
+        (ask-of operation extract delivery (now (proof .entry))) (now (homes .entry)) (now (surveys .entry))
+        (now (register .exit)) (now (output .entry)) (now (output .exit)) r ⌝ }
 {
     let verdict = extract::extract(
         signature,
@@ -157,7 +160,8 @@ pub extern "C" fn aura0_check(
     term: &[u32],
     workspace: &mut [u32],
 ) -> u64
-    ensures { λ r. ⌜ r ≡ code-of (check-call (lent-of (now (signature .entry)) n (length (now (workspace .entry)))) (now (register .entry)) (now (term .entry))) ⌝ }
+    ensures { λ r. ⌜ r ≡ code-of (check-call (lent-of (now (signature .entry)) n (now (workspace .entry)))
+        (now (register .entry)) (now (term .entry))) ⌝ }
 {
     let mut number = 0;
     let mut at = 0;
@@ -183,7 +187,8 @@ pub extern "C" fn aura0_check_type(
     workspace: &mut [u32],
     type_words: &mut usize,
 ) -> u64
-    ensures { λ r. ⌜ Typed-to (check-call (lent-of (now (signature .entry)) n (length (now (workspace .entry)))) (now (register .entry)) (now (term .entry))) (now (workspace .exit)) (now («type_words» .exit)) r ⌝ }
+    ensures { λ r. ⌜ Typed-to (check-call (lent-of (now (signature .entry)) n (now (workspace .entry)))
+        (now (register .entry)) (now (term .entry))) (now (workspace .exit)) (now («type_words» .exit)) r ⌝ }
 {
     let judged = judge(signature, n, register, term, workspace);
     match judged {

@@ -1,3 +1,4 @@
+-- Check, and its number and place as one number.
 use mathlib.Core.Path.{_∙_}
 use lib.ListN.{length}
 use Rattle.register.specs.Calls.{Lent, check-call}
@@ -9,7 +10,7 @@ use Rattle.host.proofs.aura0_check.Statement.{statement}
 use Rattle.host.proofs.aura0_check.Tie as tie
 
 abbrev lent-here : tie.Start → Lent
-lent-here s = lent-of (s .args .signature .now) (s .args .n) (length (s .args .workspace .now))
+lent-here s = lent-of (s .args .signature .now) (s .args .n) (s .args .workspace .now)
 
 check-requires : tie.Need-check-requires
 check-requires c κs = search needs

@@ -1,3 +1,4 @@
+-- Check, and its answer as one number, with how many words the type has.
 use lib.ListN.{length}
 use Rattle.logic.specs.Result.{Result}
 use Rattle.logic.specs.Term.{Term}
@@ -11,7 +12,7 @@ use Rattle.host.proofs.aura0_check_type.Statement.{statement}
 use Rattle.host.proofs.aura0_check_type.Tie as tie
 
 abbrev lent-here : tie.Start → Lent
-lent-here s = lent-of (s .args .signature .now) (s .args .n) (length (s .args .workspace .now))
+lent-here s = lent-of (s .args .signature .now) (s .args .n) (s .args .workspace .now)
 
 -- the call
 abbrev called : tie.Start → Result Term

@@ -8,6 +8,7 @@ use borrow.Author.Needs.{needs}
 use Rattle.logic.specs.Result.{Result, refused}
 use Rattle.rules.specs.declared.derivation.Verdict.the-variants.{Fault}
 use Rattle.typing.proofs.Verdicts.{fault-told}
+use Rattle.register.specs.Records.{Ask, ask-of}
 use Rattle.register.specs.Calls.{Lent}
 use Rattle.calls.specs.Shared.{lent-of}
 use Rattle.extract.specs.Extract.{extract-call}
@@ -33,13 +34,17 @@ extracted c = workspace-back c .before .before .before
 -- ---- what holds there
 
 abbrev lent-here : tie.Start → Lent
-lent-here s = lent-of (s .args .signature .now) (s .args .n) (length (s .args .workspace .now))
+lent-here s = lent-of (s .args .signature .now) (s .args .n) (s .args .workspace .now)
+
+-- what is asked
+abbrev asked : tie.Start → Ask
+asked s = ask-of (s .args .operation) (s .args .extract) (s .args .delivery) (s .args .proof .now)
 
 -- the call
 abbrev called : tie.Start → Result (List ℕ)
 called s =
     let a = s .args in
-    extract-call (lent-here s) (a .register .now) (a .operation) (a .extract) (a .delivery) (a .proof .now) (a .homes .now) (a .surveys .now)
+    extract-call (lent-here s) (a .register .now) (asked s) (a .homes .now) (a .surveys .now)
     (length (a .output .now))
 
 -- it was refused
@@ -62,7 +67,7 @@ code-requires c κs =
     let k = c .before .before .before in
     let s = start (extracted k) in
     let a = s .args in
-    extract-fits (lent-here s) (a .register .now) (a .operation) (a .extract) (a .delivery) (a .proof .now) (a .homes .now) (a .surveys .now)
+    extract-fits (lent-here s) (a .register .now) (asked s) (a .homes .now) (a .surveys .now)
     (length (a .output .now)) _ _ (omega (arith, s .good)) (refused-so k _ _ (c .before .verdict .given .1))
 
 same-length : tie.Need-same-length

@@ -1,3 +1,4 @@
+-- Open, and its answer as one number.
 use mathlib.Core.List.{List}
 use lib.ListN.{length}
 use Rattle.logic.specs.Result.{Result}
@@ -12,7 +13,7 @@ use Rattle.host.proofs.aura0_open.Statement.{statement}
 use Rattle.host.proofs.aura0_open.Tie as tie
 
 abbrev lent-here : tie.Start → Lent
-lent-here s = lent-of (s .args .signature .now) (s .args .n) (length (s .args .workspace .now))
+lent-here s = lent-of (s .args .signature .now) (s .args .n) (s .args .workspace .now)
 
 -- the call
 abbrev called : tie.Start → Result (List Record)

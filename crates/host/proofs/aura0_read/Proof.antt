@@ -1,3 +1,4 @@
+-- Read, and its answer as one number, with where the body stands.
 use Rattle.host.proofs.Starts.{Present, number-fits, not-read, present, start-fits, read-to}
 use native.Mathlib.Omega.{arith}
 use borrow.Author.Needs.{needs}

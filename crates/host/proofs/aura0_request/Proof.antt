@@ -1,5 +1,7 @@
+-- Request, and its answer as one number.
 use lib.ListN.{length}
 use Rattle.logic.specs.Result.{Result}
+use Rattle.register.specs.Records.{Ask, ask-of}
 use Rattle.register.specs.Calls.{Lent, request-call}
 use Rattle.calls.specs.Shared.{lent-of}
 use Rattle.host.proofs.Codes.{granted-code, not-granted, refused-code, request-fits}
@@ -9,11 +11,15 @@ use Rattle.host.proofs.aura0_request.Statement.{statement}
 use Rattle.host.proofs.aura0_request.Tie as tie
 
 abbrev lent-here : tie.Start → Lent
-lent-here s = lent-of (s .args .signature .now) (s .args .n) (length (s .args .workspace .now))
+lent-here s = lent-of (s .args .signature .now) (s .args .n) (s .args .workspace .now)
+
+-- what is asked
+abbrev asked : tie.Start → Ask
+asked s = ask-of (s .args .operation) (s .args .extract) (s .args .delivery) (s .args .proof .now)
 
 -- the call
 abbrev called : tie.Start → Result (Unit {0})
-called s = request-call (lent-here s) (s .args .register .now) (s .args .operation) (s .args .extract) (s .args .delivery) (s .args .proof .now)
+called s = request-call (lent-here s) (s .args .register .now) (asked s)
 
 request-requires : tie.Need-request-requires
 request-requires c κs = search needs
@@ -41,7 +47,7 @@ code-requires c κs =
     let s = before-slice-known (before-request at-request) in
     let a = s .args in
     let v = at-request .request in
-    request-fits (lent-here s) (a .register .now) (a .operation) (a .extract) (a .delivery) (a .proof .now) _ _ (omega (arith, s .good))
+    request-fits (lent-here s) (a .register .now) (asked s) _ _ (omega (arith, s .good))
     (not-granted (called s) (v .result) (v .ensures .answer) _ _ (c .before .verdict .given .1))
 
 same-length : tie.Need-same-length

@@ -1,7 +1,6 @@
-use mathlib.Core.Bool.{Bool}
-use lib.ListN.{length}
-use Rattle.logic.specs.Result.{Result}
-use Rattle.register.specs.Calls.{Lent, say-call}
+-- Say, and its answer as one number, with whether a record was added.
+use Rattle.register.specs.Records.{Statement, statement-of}
+use Rattle.register.specs.Calls.{Lent}
 use Rattle.calls.specs.Shared.{lent-of}
 use Rattle.host.proofs.Codes.{said-added, said-held, unsaid-is, said-nothing, say-fits}
 use native.Mathlib.Omega.{arith}
@@ -10,11 +9,11 @@ use Rattle.host.proofs.aura0_say.Statement.{statement}
 use Rattle.host.proofs.aura0_say.Tie as tie
 
 abbrev lent-here : tie.Start → Lent
-lent-here s = lent-of (s .args .signature .now) (s .args .n) (length (s .args .workspace .now))
+lent-here s = lent-of (s .args .signature .now) (s .args .n) (s .args .workspace .now)
 
--- the call
-abbrev called : tie.Start → Result Bool
-called s = say-call (lent-here s) (s .args .register .now) (s .args .principal) (s .args .proposition .now)
+-- what is said
+abbrev said-by : tie.Start → Statement
+said-by s = statement-of (s .args .principal) (s .args .proposition .now)
 
 say-requires : tie.Need-say-requires
 say-requires c κs = search needs
@@ -45,8 +44,8 @@ code-requires c κs =
     let s = before-slice-known (before-say at-say) in
     let a = s .args in
     let v = at-say .say in
-    say-fits (lent-here s) (a .register .now) (a .principal) (a .proposition .now) _ _ (omega (arith, s .good))
-    (unsaid-is (called s) (a .register .now) (a .principal) (a .proposition .now) (v .last .1 .1 .0) (v .result) (v .ensures) _ _
+    say-fits (lent-here s) (a .register .now) (said-by s) _ _ (omega (arith, s .good))
+    (unsaid-is (lent-here s) (a .register .now) (said-by s) (v .last .1 .1 .0) (v .result) (v .ensures) _ _
     (c .before .said .given .1))
 
 same-length : tie.Need-same-length
@@ -61,7 +60,7 @@ returns c =
     let s = before-slice-known (before-say at-say) in
     let a = s .args in
     let v = at-say .say in
-    said-added (called s) (a .register .now) (a .principal) (a .proposition .now) (v .last .1 .1 .0) (v .result) (v .ensures) (c .enum-told .given .1)
+    said-added (lent-here s) (a .register .now) (said-by s) (v .last .1 .1 .0) (v .result) (v .ensures) (c .enum-told .given .1)
 
 same-length-3 : tie.Need-same-length-3
 same-length-3 c = search needs
@@ -75,7 +74,7 @@ returns-2 c =
     let s = before-slice-known (before-say at-say) in
     let a = s .args in
     let v = at-say .say in
-    said-held (called s) (a .register .now) (a .principal) (a .proposition .now) (v .last .1 .1 .0) (v .result) (v .ensures) (c .enum-told2 .given .1)
+    said-held (lent-here s) (a .register .now) (said-by s) (v .last .1 .1 .0) (v .result) (v .ensures) (c .enum-told2 .given .1)
 
 same-length-5 : tie.Need-same-length-5
 same-length-5 c = search needs
@@ -89,7 +88,7 @@ returns-3 c =
     let s = before-slice-known (before-say at-say) in
     let a = s .args in
     let v = at-say .say in
-    said-nothing (called s) (a .register .now) (a .principal) (a .proposition .now) (v .last .1 .1 .0) (v .result) (v .ensures) _ _
+    said-nothing (lent-here s) (a .register .now) (said-by s) (v .last .1 .1 .0) (v .result) (v .ensures) _ _
     (c .before .before .said .given .1) (c .code .result) (c .code .ensures)
 
 pub aura0-say-spec : {M : Type 1} → statement M
