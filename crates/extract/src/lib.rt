@@ -6,7 +6,7 @@ use logic::refusal::OUT_OF_FORM;
 use request::request;
 use rules::derivation::Verdict;
 ghost use Rattle.register.specs.Records.{ask-of};
-ghost use Rattle.calls.specs.Shared.{lent-of};
+ghost use Rattle.shared_tests.specs.Shared.{lent-of};
 ghost use Rattle.extract.specs.Extract.{Extracted};
 
 // First the form, then the request; the output is written behind the grant.

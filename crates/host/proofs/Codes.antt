@@ -19,7 +19,8 @@ use Rattle.typing.proofs.Verdicts.{passed-told}
 use Rattle.register.specs.Records.{Statement, Ask}
 use Rattle.register.specs.Calls.{Lent, open-call, say-call, request-call, check-call}
 use Rattle.register.proofs.Bounds.{Number, open-bound, say-bound, request-bound, check-bound}
-use Rattle.calls.proofs.Checks.{words-within, handed-type, handed-nothing}
+use Rattle.shared_tests.proofs.OwnTests.{words-within}
+use Rattle.check_call.proofs.Checks.{handed-type, handed-nothing}
 use Rattle.say.specs.Said.{said-answer, Says-so}
 use Rattle.say.specs.declared.Said.{Said}
 use Rattle.say.specs.declared.Said.the-variants.{Added, Held, Fault as Not-said}

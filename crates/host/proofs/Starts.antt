@@ -18,9 +18,10 @@ use Rattle.register.specs.Calls.{read-call}
 use Rattle.register.proofs.Bounds.{read-bound}
 use Rattle.register.proofs.Words.{words-append}
 use Rattle.records.specs.Items.{part-from, part-to}
-use Rattle.records.specs.Answers.{RecordsAt, Among, body-of, kind-of}
+use Rattle.records.specs.Answers.{RecordsAt}
+use Rattle.read_call.specs.Read.{Among, body-of, kind-of}
 use Rattle.records.proofs.Items.{records-there}
-use Rattle.records.proofs.ReadAnswers.{Reached, reached-bounds, read-there}
+use Rattle.read_call.proofs.ReadAnswers.{Reached, reached-bounds, read-there}
 use Rattle.host.specs.Answers.{number-unit, code-of, start-of, Read-to}
 
 -- the records before k fill the words up to it

@@ -8,9 +8,9 @@ use Rattle.logic.specs.Result.{Result, ok, refused, _>>=_, _>>_}
 use Rattle.logic.specs.Term.{Term}
 use Rattle.register.specs.Records.{Statement, Ask, record-head, used-by, register-records}
 use Rattle.register.specs.Calls.{Lent, open-call, after-open, say-call, after-say, request-call, after-request, read-call}
-use Rattle.records.specs.Answers.{body-of, kind-of}
+use Rattle.read_call.specs.Read.{body-of, kind-of}
 use Rattle.typing.specs.Check.{without-value}
-use Rattle.calls.specs.Answers.{type-of}
+use Rattle.check_call.specs.Answers.{type-of}
 use Rattle.homes.specs.Homes.{after-write}
 use Rattle.extract.specs.Extract.{extract-call}
 

@@ -1,12 +1,12 @@
 // "A host program in C calls check and request": extern "C" entry points on numbers and lent slices, thin over the proved
 // check and request, and over open, say and read alike. include/aura0.h declares them. An answer is the refusal's number
 // times 4294967296 plus the place, 0 for success.
-use calls::check::check;
-use calls::check::judge;
+use check_call::check;
+use check_call::judge;
 use open::open;
+use read_call::place;
+use read_call::read;
 use records::format::HEAD;
-use records::read::place;
-use records::read::read;
 use request::request;
 use rules::derivation::Derivation;
 use rules::derivation::Verdict;
@@ -17,7 +17,7 @@ ghost use Prim.Native.Nat.{_+_, _*_, _≤_, _<_};
 ghost use Rattle.logic.specs.Refusals.{last-number};
 ghost use Rattle.register.specs.Records.{statement-of, ask-of};
 ghost use Rattle.register.specs.Calls.{check-call};
-ghost use Rattle.calls.specs.Shared.{lent-of};
+ghost use Rattle.shared_tests.specs.Shared.{lent-of};
 ghost use Rattle.host.specs.Answers.{number-unit, place-limit, code-of};
 ghost use Rattle.host.specs.Answers.{Opened-to, Said-to, Requested-to, Extracted-to, Typed-to, Read-to};
 

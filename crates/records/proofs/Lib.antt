@@ -2,6 +2,5 @@
 pub mod Walks
 pub mod Items
 pub mod Sought
-pub mod ReadAnswers
 pub mod Scans
 pub mod Adds

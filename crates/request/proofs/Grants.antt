@@ -35,10 +35,10 @@ use Rattle.register.specs.Calls.{Lent, payload, permission, entry, ask-test, si
 use Rattle.register.specs.Succeeds.{Grantable}
 use Rattle.register.proofs.Succeeds.{demand2}
 use Rattle.register.proofs.Words.{unbroken-right}
-use Rattle.calls.specs.Shared.{Prepared-as}
-use Rattle.calls.specs.declared.shared.Ready.{Ready}
-use Rattle.calls.specs.declared.shared.Ready.the-variants.{Fault as Unready}
-use Rattle.calls.proofs.Checks.{Passed-so, not-prepared, typed-so, Typed-so, typed-refused, Type-found, type-found, type-refused, words-within}
+use Rattle.shared_tests.specs.Shared.{Prepared-as}
+use Rattle.shared_tests.specs.declared.Ready.{Ready}
+use Rattle.shared_tests.specs.declared.Ready.the-variants.{Fault as Unready}
+use Rattle.shared_tests.proofs.OwnTests.{Passed-so, not-prepared, typed-so, Typed-so, typed-refused, Type-found, type-found, type-refused, words-within}
 use Rattle.request.specs.Requested.{Requested}
 
 -- ---- test 5 of the call's own numbers

@@ -1,6 +1,4 @@
 // Request: a grant and its receipt, where the proof is one of the desk's permission.
-use calls::shared::Ready;
-use calls::shared::prepare;
 use logic::limit::MOST_NESTING;
 use logic::limit::MOST_WORDS;
 use logic::refusal::ANOTHER_PROPOSITION;
@@ -21,6 +19,8 @@ use records::view::view_of;
 use records::write::add_grant;
 use rules::derivation::Derivation;
 use rules::derivation::Verdict;
+use shared_tests::Ready;
+use shared_tests::prepare;
 use typing::check::check_term;
 use words::part::same;
 ghost use mathlib.Core.Path.{_≡_};
@@ -36,7 +36,7 @@ ghost use Rattle.words.specs.Typed.{TypeAt};
 ghost use Rattle.rules.specs.Form.{verdict-answer};
 ghost use Rattle.register.specs.Records.{Record, ask-of, register-records};
 ghost use Rattle.register.specs.Calls.{Lent, view, outline-of, ask-test, permission, proved-own, request-call};
-ghost use Rattle.calls.specs.Shared.{lent-of};
+ghost use Rattle.shared_tests.specs.Shared.{lent-of};
 ghost use Rattle.request.specs.Requested.{Requested, Provable};
 
 // Test 5 of the call's own numbers.

@@ -29,10 +29,10 @@ use Rattle.register.specs.Calls.{Lent, signs-held, view, outline-of, say-entry,
 use Rattle.register.specs.Succeeds.{Adds, added-now}
 use Rattle.register.proofs.Succeeds.{demand2}
 use Rattle.register.proofs.Words.{unbroken-right}
-use Rattle.calls.specs.Shared.{Prepared-as}
-use Rattle.calls.specs.declared.shared.Ready.{Ready}
-use Rattle.calls.specs.declared.shared.Ready.the-variants.{Fault as Unready}
-use Rattle.calls.proofs.Checks.{Passed-so, not-prepared}
+use Rattle.shared_tests.specs.Shared.{Prepared-as}
+use Rattle.shared_tests.specs.declared.Ready.{Ready}
+use Rattle.shared_tests.specs.declared.Ready.the-variants.{Fault as Unready}
+use Rattle.shared_tests.proofs.OwnTests.{Passed-so, not-prepared}
 use Rattle.say.specs.Said.{said-answer, Says-so}
 use Rattle.say.specs.declared.Said.{Said}
 use Rattle.say.specs.declared.Said.the-variants.{Added, Held, Fault}

@@ -1,6 +1,4 @@
 // Say: the statement of a principal, added unless it is held.
-use calls::shared::Ready;
-use calls::shared::prepare;
 use logic::refusal::BAD_NUMBER;
 use logic::refusal::DESK_SAYS;
 use logic::refusal::NOT_HELD;
@@ -15,6 +13,8 @@ use records::search::is_held;
 use records::view::view_of;
 use records::write::add_statement;
 use rules::derivation::Verdict;
+use shared_tests::Ready;
+use shared_tests::prepare;
 use typing::check::check_statement;
 ghost use mathlib.Core.Path.{_≡_};
 ghost use mathlib.Core.List.{List};
@@ -23,7 +23,7 @@ ghost use Rattle.logic.specs.Term.{Term};
 ghost use Rattle.words.specs.Place.{Is};
 ghost use Rattle.register.specs.Records.{Record, statement-of, register-records};
 ghost use Rattle.register.specs.Calls.{Lent, view, outline-of, stated-own, say-call};
-ghost use Rattle.calls.specs.Shared.{lent-of};
+ghost use Rattle.shared_tests.specs.Shared.{lent-of};
 ghost use Rattle.say.specs.Said.{said-answer, Says-so, Enterable};
 
 // What a say answers: it added a record, or the statement was held, or a test refused.

@@ -105,7 +105,7 @@ pub(crate) fn check_line_with(
 ) {
     let mut number = 0;
     let mut place = 0;
-    let found = calls::check::check(sig, n, register, term, ws, &mut number, &mut place);
+    let found = check_call::check(sig, n, register, term, ws, &mut number, &mut place);
     print_answer(example, b"check", number, place);
     print_words(found);
     io::write_all(1, b"\n");
@@ -121,7 +121,7 @@ pub(crate) fn check_line(example: &[u8], register: &[u32], term: &[u32]) {
 pub(crate) fn read_line(example: &[u8], register: &[u32], record: usize) {
     let mut kind = 0;
     let mut number = 0;
-    let body = records::read::read(register, record, &mut kind, &mut number);
+    let body = read_call::read(register, record, &mut kind, &mut number);
     print_answer(example, b"read", number, 0);
     if number == 0 {
         io::write_all(1, b" kind");

@@ -6,7 +6,7 @@ use borrow.Author.Tests.{not-true, not-false}
 use borrow.Author.Needs.{needs}
 use Rattle.register.specs.Records.{Ask, ask-of}
 use Rattle.register.specs.Calls.{Lent}
-use Rattle.calls.specs.Shared.{lent-of}
+use Rattle.shared_tests.specs.Shared.{lent-of}
 use Rattle.homes.specs.Homes.{formed}
 use Rattle.extract.proofs.Extracts.{not-formed, not-granted, granted}
 use Rattle.extract.proofs.extract.Statement.{statement}

@@ -2,7 +2,7 @@
 use mathlib.Core.Path.{_∙_}
 use lib.ListN.{length}
 use Rattle.register.specs.Calls.{Lent, check-call}
-use Rattle.calls.specs.Shared.{lent-of}
+use Rattle.shared_tests.specs.Shared.{lent-of}
 use Rattle.host.proofs.Codes.{check-fits, handed-code}
 use native.Mathlib.Omega.{arith}
 use borrow.Author.Needs.{needs}

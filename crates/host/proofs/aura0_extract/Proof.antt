@@ -10,7 +10,7 @@ use Rattle.rules.specs.declared.derivation.Verdict.the-variants.{Fault}
 use Rattle.typing.proofs.Verdicts.{fault-told}
 use Rattle.register.specs.Records.{Ask, ask-of}
 use Rattle.register.specs.Calls.{Lent}
-use Rattle.calls.specs.Shared.{lent-of}
+use Rattle.shared_tests.specs.Shared.{lent-of}
 use Rattle.extract.specs.Extract.{extract-call}
 use Rattle.host.proofs.Codes.{opened-code, refused-code, extract-fits}
 use Rattle.host.proofs.aura0_extract.Statement.{statement}

@@ -4,7 +4,7 @@ use lib.ListN.{length}
 use Rattle.logic.specs.Result.{Result}
 use Rattle.register.specs.Records.{Record}
 use Rattle.register.specs.Calls.{Lent, open-call}
-use Rattle.calls.specs.Shared.{lent-of}
+use Rattle.shared_tests.specs.Shared.{lent-of}
 use Rattle.typing.proofs.Verdicts.{fault-told}
 use Rattle.host.proofs.Codes.{opened-code, refused-code, open-fits}
 use native.Mathlib.Omega.{arith}

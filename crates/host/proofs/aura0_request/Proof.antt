@@ -3,7 +3,7 @@ use lib.ListN.{length}
 use Rattle.logic.specs.Result.{Result}
 use Rattle.register.specs.Records.{Ask, ask-of}
 use Rattle.register.specs.Calls.{Lent, request-call}
-use Rattle.calls.specs.Shared.{lent-of}
+use Rattle.shared_tests.specs.Shared.{lent-of}
 use Rattle.host.proofs.Codes.{granted-code, not-granted, refused-code, request-fits}
 use native.Mathlib.Omega.{arith}
 use borrow.Author.Needs.{needs}

@@ -1,7 +1,7 @@
 -- Say, and its answer as one number, with whether a record was added.
 use Rattle.register.specs.Records.{Statement, statement-of}
 use Rattle.register.specs.Calls.{Lent}
-use Rattle.calls.specs.Shared.{lent-of}
+use Rattle.shared_tests.specs.Shared.{lent-of}
 use Rattle.host.proofs.Codes.{said-added, said-held, unsaid-is, said-nothing, say-fits}
 use native.Mathlib.Omega.{arith}
 use borrow.Author.Needs.{needs}

@@ -4,8 +4,8 @@ use lib.Seq.{length-take-le}
 use borrow.Author.Tests.{not-true, not-false}
 use Rattle.register.specs.Records.{Ask, ask-of}
 use Rattle.register.specs.Calls.{Lent, request-own}
-use Rattle.calls.specs.Shared.{lent-of}
-use Rattle.calls.proofs.Checks.{Passed-so, passed-so, table-within}
+use Rattle.shared_tests.specs.Shared.{lent-of}
+use Rattle.shared_tests.proofs.OwnTests.{Passed-so, passed-so, table-within}
 use Rattle.request.proofs.Grants.{request-not-prepared, bad-numbers, in-range-numbers, not-typed, type-here, term-here, words-inside, proved}
 use native.Mathlib.Omega.{arith}
 use borrow.Author.Needs.{needs}

@@ -1,7 +1,7 @@
 -- Nothing is written before the last test has passed.
 use Rattle.register.specs.Records.{Ask, ask-of}
 use Rattle.register.specs.Calls.{Lent}
-use Rattle.calls.specs.Shared.{lent-of}
+use Rattle.shared_tests.specs.Shared.{lent-of}
 use Rattle.request.proofs.Grants.{request-refused, grantable-now, grant-room, request-granted}
 use native.Mathlib.Omega.{arith}
 use borrow.Author.Needs.{needs}

@@ -1,7 +1,7 @@
 -- Nothing is written before the last test has passed.
 use Rattle.register.specs.Records.{Statement, statement-of}
 use Rattle.register.specs.Calls.{Lent}
-use Rattle.calls.specs.Shared.{lent-of}
+use Rattle.shared_tests.specs.Shared.{lent-of}
 use Rattle.say.proofs.Statements.{say-room, say-added, say-held, say-refused}
 use borrow.Author.Needs.{needs}
 use Rattle.say.proofs.say.Statement.{statement}

@@ -3,8 +3,8 @@ use mathlib.Core.Path.{sym}
 use lib.Seq.{length-take-le}
 use Rattle.register.specs.Records.{Statement, statement-of}
 use Rattle.register.specs.Calls.{Lent, say-own}
-use Rattle.calls.specs.Shared.{lent-of}
-use Rattle.calls.proofs.Checks.{Passed-so, passed-so, table-within}
+use Rattle.shared_tests.specs.Shared.{lent-of}
+use Rattle.shared_tests.proofs.OwnTests.{Passed-so, passed-so, table-within}
 use Rattle.say.proofs.Statements.{statement-so, say-not-prepared, principal-over, by-desk, not-stated, stated}
 use native.Mathlib.Omega.{arith}
 use borrow.Author.Needs.{needs}

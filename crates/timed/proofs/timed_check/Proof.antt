@@ -7,10 +7,6 @@ use native.Mathlib.Omega.{arith}
 use borrow.Author.Needs.{needs}
 use Rattle.timed.proofs.timed_check.Statement.{statement}
 use Rattle.timed.proofs.timed_check.Tie as tie
-use Rattle.timed.proofs.timed_check.Reads as reads
-use Rattle.timed.proofs.timed_check.Lts as lts
-use Rattle.typing.proofs.check.check_term.Reads as check-term-reads
-use Rattle.signature.proofs.list.read_signature.Reads as read-signature-reads
 
 -- ---- places, from a later one back to an earlier one
 

@@ -3,9 +3,6 @@ use lib.ListN.{length}
 use borrow.Author.Needs.{needs}
 use Rattle.worked.proofs.lines.print_words.Statement.{statement}
 use Rattle.worked.proofs.lines.print_words.Tie as tie
-use Rattle.worked.proofs.lines.print_words.Reads as reads
-use Rattle.worked.proofs.lines.print_words.Lts as lts
-use Rattle.worked.proofs.lines.print_word.Reads as print-word-reads
 
 abbrev Inv-loop : tie.InvT-loop
 Inv-loop words i₀ i = i ≤ length words

@@ -6,8 +6,6 @@ use borrow.Author.Needs.{needs}
 use native.Mathlib.Omega.{arith}
 use Rattle.worked.proofs.terms.lay.Statement.{statement}
 use Rattle.worked.proofs.terms.lay.Tie as tie
-use Rattle.worked.proofs.terms.lay.Reads as reads
-use Rattle.worked.proofs.terms.lay.Lts as lts
 
 abbrev Inv-loop : tie.InvT-loop
 Inv-loop block last out₀ n i₀ out i = (i ≤ n) × (n ≡ length out)

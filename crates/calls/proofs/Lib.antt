@@ -1,3 +1,0 @@
--- The calls meet their contracts.
-pub mod SharedTests
-pub mod Checks

@@ -1,3 +1,0 @@
--- What the calls answer, by the definitions of `register`.
-pub mod Shared
-pub mod Answers

@@ -1,0 +1,81 @@
+-- Check: one law for each return, and what is handed back.
+use Prim.Native.Nat.{ℕ, _≤_}
+use native.Mathlib.Omega.{arith}
+use mathlib.Core.Path.{_≡_, refl, sym, ap, ap₂, subst, _∙_, fun-ext}
+use mathlib.Core.List.{List, []}
+use lib.Dec.{leb}
+use lib.ListN.{length, take, length-take}
+use lib.Seq.{take-at}
+use Rattle.logic.specs.Limits.{least-workspace, most-words, most-nesting}
+use Rattle.logic.specs.Refusals.{workspace-short, bad-number, not-held}
+use Rattle.logic.specs.Result.{Result, ok, refused, _>>=_, _>>_, require}
+use Rattle.logic.specs.Term.{Term, encode, size}
+use Rattle.logic.specs.SignatureList.{signature, operations-test}
+use Rattle.logic.specs.Infer.{infer}
+use Rattle.logic.specs.Check.{term-of, check-term, Checked}
+use Rattle.logic.proofs.Basics.{clash}
+use Rattle.logic.proofs.Results.{ok-inj, bound, bind-is}
+use Rattle.logic.proofs.Stopped.{not-mapped, stop}
+use Rattle.logic.proofs.Words.{encode-size}
+use Rattle.logic.proofs.Check.{term-of-right}
+use Rattle.words.specs.Place.{Is}
+use Rattle.words.specs.Typed.{TypeAt}
+use Rattle.words.proofs.Places.{end-of}
+use Rattle.rules.specs.Form.{Front}
+use Rattle.rules.proofs.Fronts.{typed-by, refused-by}
+use Rattle.rules.specs.declared.derivation.Derivation.{Derivation}
+use Rattle.rules.specs.declared.derivation.Derivation.the-variants.{Typed, Refused}
+use Rattle.typing.specs.Check.{Constants-of, typed-term, Judged}
+use Rattle.records.specs.Answers.{unheld-answer}
+use Rattle.records.specs.declared.search.Unheld.{Unheld}
+use Rattle.records.specs.declared.search.Unheld.the-variants.{Nowhere, At}
+use Rattle.register.specs.Records.{Record, register-records, held}
+use Rattle.register.specs.Calls.{Lent, Outline, View, view, length-test, shared, outline-of, on-register, signs-held, check-own, check-call}
+use Rattle.check_call.specs.Answers.{Handed}
+use Rattle.shared_tests.specs.Shared.{ready-answer, prepared, constants-found, Lent-so, Prepared-as}
+use Rattle.shared_tests.proofs.OwnTests.{not-prepared, Passed-so, typed-refused, Type-found, type-found, type-refused, Typed-so, typed-so, words-within}
+use Rattle.shared_tests.specs.declared.Ready.{Ready}
+use Rattle.shared_tests.specs.declared.Ready.the-variants.{Constants, Fault}
+
+judged-refused : (o : Result Term) (end : ℕ) (new : List ℕ) (m p : ℕ) → o ≡ refused m p → Judged o end new (Refused m p)
+judged-refused o end new m p e = subst (λ (x : Result Term). Judged x end new (Refused m p)) (sym e) (record { answer = refl; front = tt })
+
+module _ (l : Lent) (reg table term : List ℕ) (r : Ready) (P : Prepared-as l reg table r) where
+  pub check-not-prepared : (new : List ℕ) (m p : ℕ) → r ≡ Fault m p → Judged (check-call l reg term) (length term) new (Refused m p)
+  check-not-prepared new m p q = judged-refused _ _ new m p (not-prepared l reg table r (check-own term) P m p q)
+
+  module _ (count : ℕ) (so : Passed-so l reg table r (check-own term) P count) where
+    pub check-not-typed : (new : List ℕ) (d : Derivation) (m p : ℕ) → Judged (typed-term (so .Σ) most-words most-nesting term) (length term) new d → d ≡ Refused m p → Judged (check-call l reg term) (length term) new d
+    check-not-typed new d m p J e =
+        let h = typed-refused (so .Σ) term m p (type-refused _ _ new d m p J e) in
+        subst (Judged (check-call l reg term) (length term) new) (sym e) (judged-refused _ _ new m p (so .is ∙ ap (λ x. x >>= λ c. signs-held (held (so .rs)) (c .term) >> ok (c .type)) h))
+
+    module _ (new : List ℕ) (d : Derivation) (words e : ℕ) (J : Judged (typed-term (so .Σ) most-words most-nesting term) (length term) new d) (f : d ≡ Typed words e) where
+      pub type-here : Type-found (typed-term (so .Σ) most-words most-nesting term) new words
+      type-here = type-found _ _ new d words e J f
+
+      pub term-here : Typed-so (so .Σ) term (type-here .type)
+      term-here = typed-so (so .Σ) term (type-here .type) (type-here .is)
+
+      check-is : check-call l reg term ≡ (signs-held (held (so .rs)) (term-here .term) >> ok (type-here .type))
+      check-is = so .is ∙ ap (λ x. x >>= λ c. signs-held (held (so .rs)) (c .term) >> ok (c .type)) (term-here .is)
+
+      pub check-unheld : (u : Unheld) (p : ℕ) → unheld-answer u ≡ signs-held (held (so .rs)) (term-here .term) → u ≡ At p → Judged (check-call l reg term) (length term) new (Refused not-held p)
+      check-unheld u p g h = judged-refused _ _ new not-held p (check-is ∙ ap (λ x. x >> ok (type-here .type)) (sym g ∙ ap unheld-answer h))
+
+      pub check-held : (u : Unheld) → unheld-answer u ≡ signs-held (held (so .rs)) (term-here .term) → u ≡ Nowhere → Judged (check-call l reg term) (length term) new d
+      check-held u g h =
+          let i : typed-term (so .Σ) most-words most-nesting term ≡ check-call l reg term = type-here .is ∙ sym (check-is ∙ ap (λ x. x >> ok (type-here .type)) (sym g ∙ ap unheld-answer h)) in
+          subst (λ (x : Result Term). Judged x (length term) new d) i J
+
+-- ---- what is handed back
+
+module _ (o : Result Term) (end : ℕ) (new : List ℕ) (r : Derivation) (J : Judged o end new r) where
+  pub handed-type : (words e : ℕ) → r ≡ Typed words e → Handed o (take words new) 0 0
+  handed-type words e q =
+      let T = type-found o end new r words e J q in
+      let w : take words new ≡ encode (T .type) = ap₂ (λ (i : ℕ) (x : List ℕ). take i x) (T .words-are) (T .front .words) ∙ take-at (encode (T .type)) (T .front .rest) (size (T .type)) (encode-size (T .type)) in
+      subst (λ (x : Result Term). Handed x (take words new) 0 0) (sym (T .is)) (record { part-is = w; number-is = refl; place-is = refl })
+
+  pub handed-nothing : (m p : ℕ) → r ≡ Refused m p → Handed o (take 0 new) m p
+  handed-nothing m p q = subst (λ (x : Result Term). Handed x (take 0 new) m p) (sym (type-refused o end new r m p J q)) (record { part-is = refl; number-is = refl; place-is = refl })

@@ -1,0 +1,2 @@
+-- The call meets its contract.
+pub mod Checks

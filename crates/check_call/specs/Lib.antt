@@ -1,0 +1,2 @@
+-- What check hands back.
+pub mod Answers

@@ -1,0 +1,2 @@
+-- What read is asked and hands back.
+pub mod Read

@@ -1,0 +1,73 @@
+-- The tests that calls share, as one step before a call's own tests.
+use Prim.Native.Nat.{ℕ, _≤_}
+use mathlib.Core.Path.{_≡_}
+use mathlib.Core.List.{List, []}
+use lib.Dec.{leb}
+use lib.ListN.{length, take}
+use Rattle.logic.specs.Limits.{least-workspace, most-register, most-operations}
+use Rattle.logic.specs.Refusals.{workspace-short, bad-number}
+use Rattle.logic.specs.Result.{Result, ok, refused, _>>=_, _>>_, require}
+use Rattle.logic.specs.Term.{Term}
+use Rattle.logic.specs.SignatureList.{signature, operations-test}
+use Rattle.typing.specs.Check.{Constants-of}
+use Rattle.register.specs.Records.{Record, header, register-records}
+use Rattle.register.specs.Calls.{Lent, Outline, View, view, length-test, shared, outline-of, fresh-outline, on-register}
+use Rattle.shared_tests.specs.declared.Ready.{Ready}
+use Rattle.shared_tests.specs.declared.Ready.the-variants.{Constants, Fault}
+
+-- what a call is lent: of the workspace only the length matters
+abbrev pub lent-of : (sig : List ℕ) (n : ℕ) (workspace : List ℕ) → Lent
+lent-of sig n workspace = record { sig = sig; n = n; workspace = length workspace }
+
+-- tests 1 and 2
+abbrev pub lengths-test : (workspace register : ℕ) → Result (Unit {0})
+lengths-test workspace register = require (leb least-workspace workspace) workspace-short 0 >> length-test register
+
+-- tests 4 and 5
+abbrev pub signed : List ℕ → ℕ → Result (List Term)
+signed sig n = signature sig >>= λ Σ. require (operations-test Σ n) bad-number 0 >> ok Σ
+
+-- number, place and value of each case: how many constants there are
+abbrev pub ready-answer : Ready → Result ℕ
+ready-answer (Constants n) = ok n
+ready-answer (Fault m p) = refused m p
+
+-- the answer; and where the signature is accepted, the first words of the table say where its constants' types stand
+pub record Signed-as (sig : List ℕ) (n : ℕ) (table : List ℕ) (r : Ready) : Type 0 where
+  pub answer : ready-answer r ≡ (signed sig n >>= λ Σ. ok (length Σ))
+  pub constants : (Σ : List Term) → signed sig n ≡ ok Σ → Constants-of sig (take (length Σ) table) Σ
+
+-- what the shared tests find: for calls on a register that is not broken, and for open
+abbrev pub prepared : Lent → List ℕ → Result View
+prepared l reg = on-register l reg ok
+
+abbrev pub opened : Lent → (len : ℕ) → Result View
+opened l len = shared l (fresh-outline len) (ok []) ok
+
+-- how many constants they find
+abbrev pub constants-found : Result View → Result ℕ
+constants-found o = o >>= λ v. ok (length (v .Σ))
+
+-- the tests passed
+pub record Lent-so (l : Lent) (o : Outline) (rs : List Record) (table : List ℕ) (v : View) : Type 0 where
+  pub is : v ≡ view l o rs (v .Σ)
+  pub constants : Constants-of (l .sig) (take (length (v .Σ)) table) (v .Σ)
+  pub workspace : least-workspace ≤ l .workspace
+  pub not-shorter : header ≤ o .size
+  pub not-longer : o .size ≤ most-register
+  pub operations : l .n ≤ most-operations
+
+-- on a register
+pub record Register-so (l : Lent) (reg table : List ℕ) (v : View) : Type 0 where
+  pub rs : List Record
+  pub reads : register-records reg ≡ ok rs
+  pub lent-so : Lent-so l (outline-of reg) rs table v
+
+-- the answer, and what is so where the tests passed
+pub record Prepared-as (l : Lent) (reg table : List ℕ) (r : Ready) : Type 0 where
+  pub answer : ready-answer r ≡ constants-found (prepared l reg)
+  pub passed : (v : View) → prepared l reg ≡ ok v → Register-so l reg table v
+
+pub record Opened-as (l : Lent) (len : ℕ) (table : List ℕ) (r : Ready) : Type 0 where
+  pub answer : ready-answer r ≡ constants-found (opened l len)
+  pub passed : (v : View) → opened l len ≡ ok v → Lent-so l (fresh-outline len) [] table v

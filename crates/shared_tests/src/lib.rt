@@ -1,0 +1,98 @@
+// The tests that calls share: 1 to 4, and of 5 the number of operations with their permits and receipts.
+use logic::limit::LEAST_WORKSPACE;
+use logic::limit::MOST_REGISTER;
+use logic::refusal::BAD_NUMBER;
+use logic::refusal::BAD_SIGNATURE;
+use logic::refusal::REGISTER_BROKEN;
+use logic::refusal::REGISTER_LENGTH;
+use logic::refusal::WORKSPACE_SHORT;
+use records::format::HEADER;
+use records::walk::Contents;
+use records::walk::walk;
+use signature::list::Listed;
+use signature::list::read_signature;
+use signature::operations::operations;
+ghost use mathlib.Core.Path.{_≡_};
+ghost use lib.ListN.{length};
+ghost use Rattle.logic.specs.Limits.{most-constants};
+ghost use Rattle.signature.specs.Listing.{Readable};
+ghost use Rattle.logic.specs.Result.{number-of};
+ghost use Rattle.shared_tests.specs.Shared.{lengths-test, lent-of, Signed-as, Prepared-as, Opened-as};
+
+// How many constants the signature has; or a test refuses.
+pub enum Ready {
+    Constants { count: usize },
+    Fault { number: u32, place: usize },
+}
+
+// Tests 4 and 5.
+fn accept(sig: &[u32], n: u32, table: &mut [u32], ws: &mut [u32]) -> Ready
+    requires { ⌜ Readable (now table) (now ws) ⌝ }
+    ensures { λ r. ⌜ Signed-as (now (sig .entry)) n (now (table .exit)) r ⌝ }
+{
+    let listed = read_signature(sig, table, ws);
+    match listed {
+        Listed::Bad { place } => Ready::Fault {
+            number: BAD_SIGNATURE,
+            place,
+        },
+        Listed::Accepted { count } => {
+            let fine = operations(sig, &table[..count], n);
+            if fine {
+                Ready::Constants { count }
+            } else {
+                Ready::Fault {
+                    number: BAD_NUMBER,
+                    place: 0,
+                }
+            }
+        }
+    }
+}
+
+// Tests 1 and 2: the number of the one that refuses, or 0.
+fn lengths(workspace: usize, register: usize) -> u32
+    ensures { λ r. ⌜ r ≡ number-of (lengths-test workspace register) ⌝ }
+{
+    if workspace < LEAST_WORKSPACE {
+        return WORKSPACE_SHORT;
+    }
+    if register < HEADER {
+        return REGISTER_LENGTH;
+    }
+    if MOST_REGISTER < register {
+        return REGISTER_LENGTH;
+    }
+    0
+}
+
+// Tests 1, 2, 4 and 5, for open.
+pub fn lend(sig: &[u32], n: u32, register: usize, table: &mut [u32], ws: &mut [u32]) -> Ready
+    requires { ⌜ length (now table) ≡ most-constants ⌝ }
+    ensures { λ r. ⌜ Opened-as (lent-of (now (sig .entry)) n (now (ws .entry))) register (now (table .exit)) r ⌝ }
+{
+    let number = lengths(ws.len(), register);
+    if number != 0 {
+        return Ready::Fault { number, place: 0 };
+    }
+    accept(sig, n, table, ws)
+}
+
+// Tests 1 to 5, for the other calls.
+pub fn prepare(sig: &[u32], n: u32, register: &[u32], table: &mut [u32], ws: &mut [u32]) -> Ready
+    requires { ⌜ length (now table) ≡ most-constants ⌝ }
+    ensures { λ r. ⌜ Prepared-as (lent-of (now (sig .entry)) n (now (ws .entry))) (now (register .entry)) (now (table .exit)) r ⌝ }
+{
+    let number = lengths(ws.len(), register.len());
+    if number != 0 {
+        return Ready::Fault { number, place: 0 };
+    }
+    let contents = walk(register);
+    if let Contents::Broken = contents {
+        return Ready::Fault {
+            number: REGISTER_BROKEN,
+            place: 0,
+        };
+    }
+    accept(sig, n, table, ws)
+}
