@@ -4,7 +4,7 @@ use Rattle.logic.specs.Result.{Result}
 use Rattle.logic.specs.Term.{Term}
 use Rattle.register.specs.Calls.{Lent, check-call}
 use Rattle.shared_tests.specs.Shared.{lent-of}
-use Rattle.shared_tests.proofs.OwnTests.{handed-nothing}
+use Rattle.check_call.proofs.Checks.{handed-nothing}
 use Rattle.host.proofs.Codes.{check-fits, typed-to, refused-to}
 use native.Mathlib.Omega.{arith}
 use borrow.Author.Needs.{needs}
