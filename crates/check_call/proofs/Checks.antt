@@ -31,7 +31,7 @@ use Rattle.records.specs.declared.search.Unheld.{Unheld}
 use Rattle.records.specs.declared.search.Unheld.the-variants.{Nowhere, At}
 use Rattle.register.specs.Records.{Record, register-records, held}
 use Rattle.register.specs.Calls.{Lent, Outline, View, view, length-test, shared, outline-of, on-register, signs-held, check-own, check-call}
-use Rattle.check_call.specs.Answers.{Handed}
+use Rattle.check_call.specs.Answers.{Handed-as}
 use Rattle.shared_tests.specs.Shared.{ready-answer, prepared, constants-found, Lent-so, Prepared-as}
 use Rattle.shared_tests.proofs.OwnTests.{not-prepared, Passed-so, typed-refused, Type-found, type-found, type-refused, Typed-so, typed-so, words-within}
 use Rattle.shared_tests.specs.declared.Ready.{Ready}
@@ -51,31 +51,31 @@ module _ (l : Lent) (reg table term : List ℕ) (r : Ready) (P : Prepared-as l r
         subst (Judged (check-call l reg term) (length term) new) (sym e) (judged-refused _ _ new m p (so .is ∙ ap (λ x. x >>= λ c. signs-held (held (so .rs)) (c .term) >> ok (c .type)) h))
 
     module _ (new : List ℕ) (d : Derivation) (words e : ℕ) (J : Judged (typed-term (so .Σ) most-words most-nesting term) (length term) new d) (f : d ≡ Typed words e) where
-      pub type-here : Type-found (typed-term (so .Σ) most-words most-nesting term) new words
-      type-here = type-found _ _ new d words e J f
+      pub check-type : Type-found (typed-term (so .Σ) most-words most-nesting term) new words
+      check-type = type-found _ _ new d words e J f
 
-      pub term-here : Typed-so (so .Σ) term (type-here .type)
-      term-here = typed-so (so .Σ) term (type-here .type) (type-here .is)
+      pub check-term-found : Typed-so (so .Σ) term (check-type .type)
+      check-term-found = typed-so (so .Σ) term (check-type .type) (check-type .is)
 
-      check-is : check-call l reg term ≡ (signs-held (held (so .rs)) (term-here .term) >> ok (type-here .type))
-      check-is = so .is ∙ ap (λ x. x >>= λ c. signs-held (held (so .rs)) (c .term) >> ok (c .type)) (term-here .is)
+      check-is : check-call l reg term ≡ (signs-held (held (so .rs)) (check-term-found .term) >> ok (check-type .type))
+      check-is = so .is ∙ ap (λ x. x >>= λ c. signs-held (held (so .rs)) (c .term) >> ok (c .type)) (check-term-found .is)
 
-      pub check-unheld : (u : Unheld) (p : ℕ) → unheld-answer u ≡ signs-held (held (so .rs)) (term-here .term) → u ≡ At p → Judged (check-call l reg term) (length term) new (Refused not-held p)
-      check-unheld u p g h = judged-refused _ _ new not-held p (check-is ∙ ap (λ x. x >> ok (type-here .type)) (sym g ∙ ap unheld-answer h))
+      pub check-unheld : (u : Unheld) (p : ℕ) → unheld-answer u ≡ signs-held (held (so .rs)) (check-term-found .term) → u ≡ At p → Judged (check-call l reg term) (length term) new (Refused not-held p)
+      check-unheld u p g h = judged-refused _ _ new not-held p (check-is ∙ ap (λ x. x >> ok (check-type .type)) (sym g ∙ ap unheld-answer h))
 
-      pub check-held : (u : Unheld) → unheld-answer u ≡ signs-held (held (so .rs)) (term-here .term) → u ≡ Nowhere → Judged (check-call l reg term) (length term) new d
+      pub check-held : (u : Unheld) → unheld-answer u ≡ signs-held (held (so .rs)) (check-term-found .term) → u ≡ Nowhere → Judged (check-call l reg term) (length term) new d
       check-held u g h =
-          let i : typed-term (so .Σ) most-words most-nesting term ≡ check-call l reg term = type-here .is ∙ sym (check-is ∙ ap (λ x. x >> ok (type-here .type)) (sym g ∙ ap unheld-answer h)) in
+          let i : typed-term (so .Σ) most-words most-nesting term ≡ check-call l reg term = check-type .is ∙ sym (check-is ∙ ap (λ x. x >> ok (check-type .type)) (sym g ∙ ap unheld-answer h)) in
           subst (λ (x : Result Term). Judged x (length term) new d) i J
 
 -- ---- what is handed back
 
 module _ (o : Result Term) (end : ℕ) (new : List ℕ) (r : Derivation) (J : Judged o end new r) where
-  pub handed-type : (words e : ℕ) → r ≡ Typed words e → Handed o (take words new) 0 0
+  pub handed-type : (words e : ℕ) → r ≡ Typed words e → Handed-as o (take words new) 0 0
   handed-type words e q =
       let T = type-found o end new r words e J q in
       let w : take words new ≡ encode (T .type) = ap₂ (λ (i : ℕ) (x : List ℕ). take i x) (T .words-are) (T .front .words) ∙ take-at (encode (T .type)) (T .front .rest) (size (T .type)) (encode-size (T .type)) in
-      subst (λ (x : Result Term). Handed x (take words new) 0 0) (sym (T .is)) (record { part-is = w; number-is = refl; place-is = refl })
+      subst (λ (x : Result Term). Handed-as x (take words new) 0 0) (sym (T .is)) (record { part-is = w; number-is = refl; place-is = refl })
 
-  pub handed-nothing : (m p : ℕ) → r ≡ Refused m p → Handed o (take 0 new) m p
-  handed-nothing m p q = subst (λ (x : Result Term). Handed x (take 0 new) m p) (sym (type-refused o end new r m p J q)) (record { part-is = refl; number-is = refl; place-is = refl })
+  pub handed-nothing : (m p : ℕ) → r ≡ Refused m p → Handed-as o (take 0 new) m p
+  handed-nothing m p q = subst (λ (x : Result Term). Handed-as x (take 0 new) m p) (sym (type-refused o end new r m p J q)) (record { part-is = refl; number-is = refl; place-is = refl })

@@ -14,7 +14,7 @@ use Rattle.typing.specs.Check.{without-value}
 use Rattle.register.specs.Records.{Ask}
 use Rattle.register.specs.Calls.{Lent, request-call, after-request}
 use Rattle.register.proofs.Bounds.{request-bound}
-use Rattle.register.proofs.Refuses.{demand1, answers}
+use Rattle.register.proofs.Refuses.{demand1, one-answer}
 use Rattle.register.proofs.Succeeds.{demand2}
 use Rattle.homes.specs.Homes.{formed, joined, after-write}
 use Rattle.homes.specs.Right.{InForm, Right}
@@ -99,7 +99,7 @@ module _ (l : Lent) (reg : List ℕ) (k : Ask) (hs t : List ℕ) (room : ℕ) wh
 
   pub extract-demands : ExtractDemands l reg k hs t room
   extract-demands = record {
-    answers = answers call granted (λ m place. (refused-then, then-refused));
+    answers = one-answer call granted (λ m place. (refused-then, then-refused));
     form-first = form-first;
     then-request = then-request;
     as-request = λ f. ap (λ (o : Result (Unit {0})). after-request o reg k) (then-request f);

@@ -10,13 +10,13 @@ use Rattle.register.specs.Records.{records, words-of, held, same-words}
 use Rattle.register.specs.Calls.{opening}
 use Rattle.register.specs.History.{run}
 use Rattle.register.specs.Worked.{listed}
-use Rattle.homes.specs.Homes.{rising, rows, formed, code-of, joined}
+use Rattle.homes.specs.Homes.{rising, rows, formed, survey-code, joined}
 use Rattle.extract.specs.Extract.{extract-call}
 use Rattle.extract.specs.Desk.{desk-run, desk-answers}
 use Rattle.extract.specs.Guards.{ExtractGuards}
 
 pub extract-guards : ExtractGuards
-unfolding infer same-term conclusion read too-deep first-unheld shift fillAt occurs size encode ℕ-discrete constants operations records words-of held same-words opening run listed rising rows formed code-of joined extract-call desk-run desk-answers
+unfolding infer same-term conclusion read too-deep first-unheld shift fillAt occurs size encode ℕ-discrete constants operations records words-of held same-words opening run listed rising rows formed survey-code joined extract-call desk-run desk-answers
 extract-guards = record {
   granted = refl;
   written = refl;

@@ -7,7 +7,7 @@ use Rattle.logic.specs.Term.{encode}
 use Rattle.logic.specs.Worked.{p}
 use Rattle.register.specs.Records.{Ask, ask-of}
 use Rattle.register.specs.History.{requested, lent, run}
-use Rattle.register.specs.Worked.{setting, opened, say-consent, request-extract}
+use Rattle.register.specs.Worked.{setting, opened-sample, say-consent, request-extract}
 use Rattle.homes.specs.Homes.{after-write}
 use Rattle.extract.specs.Extract.{extract-call}
 use Rattle.extract.specs.Desk.{DeskCall, extract, desk-run, desk-answers}
@@ -26,7 +26,7 @@ equal-homes w room = extract w asked (1 ∷ 2 ∷ 2 ∷ []) (2 ∷ 50 ∷ []) ro
 
 -- behind the rule and the say, on a register of so many words
 abbrev pub held-by : ℕ → List ℕ
-held-by len = run setting (opened len) (say-consent ∷ [])
+held-by len = run setting (opened-sample len) (say-consent ∷ [])
 
 pub record ExtractGuards : Type 0 where
   -- "After a grant it writes every home in the list's order with its survey code, or 4294967295 where no survey exists";
@@ -43,7 +43,7 @@ pub record ExtractGuards : Type 0 where
   -- then the request's own refusals
   pub workspace : desk-answers setting (held-by 64) (three-homes 12287 6 ∷ []) ≡ requested (refused 1 0) ∷ []
   pub no-room : desk-answers setting (held-by 63) (three-homes 12288 6 ∷ []) ≡ requested (refused 16 0) ∷ []
-  pub not-said : desk-answers setting (opened 64) (three-homes 12288 6 ∷ []) ≡ requested (refused 14 23) ∷ []
+  pub not-said : desk-answers setting (opened-sample 64) (three-homes 12288 6 ∷ []) ≡ requested (refused 14 23) ∷ []
   -- "A refused request writes nothing"
   pub not-written : after-write (extract-call (lent setting 12287) (held-by 64) asked (1 ∷ []) (1 ∷ 50 ∷ []) 3) (7 ∷ 8 ∷ 9 ∷ []) ≡ 7 ∷ 8 ∷ 9 ∷ []
   pub register-kept : desk-run setting (held-by 63) (equal-homes 12288 6 ∷ three-homes 12288 6 ∷ []) ≡ held-by 63

@@ -1,10 +1,10 @@
 -- The guards hold, by computing.
 use mathlib.Core.Path.{refl}
-use Rattle.homes.specs.Homes.{rising, rows, formed, code-of, joined, write-call}
+use Rattle.homes.specs.Homes.{rising, rows, formed, survey-code, joined, write-call}
 use Rattle.homes.specs.Guards.{HomesGuards}
 
 pub homes-guards : HomesGuards
-unfolding rising rows formed code-of joined write-call
+unfolding rising rows formed survey-code joined write-call
 homes-guards = record {
   homes = refl;
   table-rows = refl;

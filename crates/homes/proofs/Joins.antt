@@ -12,7 +12,7 @@ use Rattle.logic.proofs.Basics.{clash}
 use Rattle.logic.proofs.Results.{both-true, true-both}
 use Rattle.logic.specs.Refusals.{out-of-form}
 use Rattle.words.specs.Place.{written}
-use Rattle.homes.specs.Homes.{most-homes, most-rows, no-survey, rising, rows, formed, code-of, joined, write-call, Wrote, here}
+use Rattle.homes.specs.Homes.{most-homes, most-rows, no-survey, rising, rows, formed, survey-code, joined, write-call, Wrote, here}
 
 -- ---- the pass: rows of lower homes are passed over, and then the row that stands there decides
 
@@ -67,16 +67,16 @@ rows-low least low (h ∷ c ∷ t) l e =
 -- ---- rows that are passed over
 
 -- a row of another home
-code-other : (x c k : ℕ) (t : List ℕ) → (x ≡ k → ⊥) → code-of k (x ∷ c ∷ t) ≡ code-of k t
-unfolding code-of
-code-other x c k t n = ap (λ (b : Bool). pick b c (code-of k t)) (ne-eqb x k n)
+code-other : (x c k : ℕ) (t : List ℕ) → (x ≡ k → ⊥) → survey-code k (x ∷ c ∷ t) ≡ survey-code k t
+unfolding survey-code
+code-other x c k t n = ap (λ (b : Bool). pick b c (survey-code k t)) (ne-eqb x k n)
 
-over : (h k x c : ℕ) (t : List ℕ) (b : Bool) → h ≤ k → ltb x h ≡ b → code-of k (beyond h t) ≡ code-of k t →
-    code-of k (pick b (beyond h t) (x ∷ c ∷ t)) ≡ code-of k (x ∷ c ∷ t)
+over : (h k x c : ℕ) (t : List ℕ) (b : Bool) → h ≤ k → ltb x h ≡ b → survey-code k (beyond h t) ≡ survey-code k t →
+    survey-code k (pick b (beyond h t) (x ∷ c ∷ t)) ≡ survey-code k (x ∷ c ∷ t)
 over h k x c t true l e i = let s = ltb-true x h e in i ∙ sym (code-other x c k t (λ q. omega arith))
 over h k x c t false l e i = refl
 
-code-beyond : (h k : ℕ) (t : List ℕ) → h ≤ k → code-of k (beyond h t) ≡ code-of k t
+code-beyond : (h k : ℕ) (t : List ℕ) → h ≤ k → survey-code k (beyond h t) ≡ survey-code k t
 unfolding beyond
 code-beyond h k [] l = refl
 code-beyond h k (x ∷ []) l = refl
@@ -95,26 +95,26 @@ rows-beyond h (x ∷ c ∷ t) e = rows-over h x c t (ltb x h) e (rows-beyond h t
 
 -- ---- the row that stands there
 
-pub code-none : (h least : ℕ) (t : List ℕ) → rows least t ≡ true → h < least → code-of h t ≡ no-survey
-unfolding code-of
+pub code-none : (h least : ℕ) (t : List ℕ) → rows least t ≡ true → h < least → survey-code h t ≡ no-survey
+unfolding survey-code
 code-none h least [] e l = refl
 code-none h least (x ∷ []) e l = refl
 code-none h least (x ∷ c ∷ t) e l =
     let f = row-facts least x c t e in
     code-other x c h t (λ q. omega (arith, f .low)) ∙ code-none h (x + 1) t (f .rest) (omega (arith, f .low))
 
-here-row : (h x c : ℕ) (t : List ℕ) (b : Bool) → rows (x + 1) t ≡ true → h ≤ x → eqb x h ≡ b → pick b c no-survey ≡ pick b c (code-of h t)
+here-row : (h x c : ℕ) (t : List ℕ) (b : Bool) → rows (x + 1) t ≡ true → h ≤ x → eqb x h ≡ b → pick b c no-survey ≡ pick b c (survey-code h t)
 here-row h x c t true e l q = refl
 here-row h x c t false e l q = sym (code-none h (x + 1) t e (omega arith))
 
-here-front : (h x c : ℕ) (t : List ℕ) (b : Bool) → rows 0 (x ∷ c ∷ t) ≡ true → ltb x h ≡ b → here h (beyond h t) ≡ code-of h (beyond h t) →
-    here h (pick b (beyond h t) (x ∷ c ∷ t)) ≡ code-of h (pick b (beyond h t) (x ∷ c ∷ t))
-unfolding here code-of
+here-front : (h x c : ℕ) (t : List ℕ) (b : Bool) → rows 0 (x ∷ c ∷ t) ≡ true → ltb x h ≡ b → here h (beyond h t) ≡ survey-code h (beyond h t) →
+    here h (pick b (beyond h t) (x ∷ c ∷ t)) ≡ survey-code h (pick b (beyond h t) (x ∷ c ∷ t))
+unfolding here survey-code
 here-front h x c t true e q i = i
 here-front h x c t false e q i = here-row h x c t (eqb x h) (row-facts 0 x c t e .rest) (ltb-false x h q) refl
 
-here-beyond : (h : ℕ) (t : List ℕ) → rows 0 t ≡ true → here h (beyond h t) ≡ code-of h (beyond h t)
-unfolding here code-of beyond
+here-beyond : (h : ℕ) (t : List ℕ) → rows 0 t ≡ true → here h (beyond h t) ≡ survey-code h (beyond h t)
+unfolding here survey-code beyond
 here-beyond h [] e = refl
 here-beyond h (x ∷ []) e = refl
 here-beyond h (x ∷ c ∷ t) e = here-front h x c t (ltb x h) e refl (here-beyond h t (rows-low (x + 1) 0 t (omega arith) (row-facts 0 x c t e .rest)))

@@ -12,7 +12,7 @@ use borrow.Author.Tests.{eqb-true, eqb-false, eq-eqb, ne-eqb, leb-true, leb-fals
 use Rattle.logic.specs.Result.{pick}
 use Rattle.words.specs.Place.{written}
 use Rattle.words.proofs.Lists.{length-written, written-front}
-use Rattle.homes.specs.Homes.{no-survey, rows, code-of, joined}
+use Rattle.homes.specs.Homes.{no-survey, rows, survey-code, joined}
 use Rattle.homes.specs.Right.{Row, InForm, Right, with-code, without-code, WritingStep}
 use Rattle.homes.proofs.Joins.{row-facts, odd, formed-facts}
 use Rattle.homes.proofs.InForm.{next, next-one, rows-least, rows-code, in-form}
@@ -28,27 +28,27 @@ joined-home : (hs t : List ℕ) (k : ℕ) → k < length hs → getD (joined hs 
 unfolding joined
 joined-home [] t k l = absurd (omega arith)
 joined-home (h ∷ hs) t zero l = refl
-joined-home (h ∷ hs) t (suc k) l = next (joined hs t) h (code-of h t) k ∙ joined-home hs t k (omega arith)
+joined-home (h ∷ hs) t (suc k) l = next (joined hs t) h (survey-code h t) k ∙ joined-home hs t k (omega arith)
 
-joined-code : (hs t : List ℕ) (k : ℕ) → k < length hs → getD (joined hs t) (2 * k + 1) 0 ≡ code-of (getD hs k 0) t
+joined-code : (hs t : List ℕ) (k : ℕ) → k < length hs → getD (joined hs t) (2 * k + 1) 0 ≡ survey-code (getD hs k 0) t
 unfolding joined
 joined-code [] t k l = absurd (omega arith)
 joined-code (h ∷ hs) t zero l = refl
-joined-code (h ∷ hs) t (suc k) l = next-one (joined hs t) h (code-of h t) k ∙ joined-code hs t k (omega arith)
+joined-code (h ∷ hs) t (suc k) l = next-one (joined hs t) h (survey-code h t) k ∙ joined-code hs t k (omega arith)
 
 -- ---- the table's rows
 
 -- a row that the table has is found
-row-found : (least : ℕ) (t : List ℕ) (h j : ℕ) → rows least t ≡ true → 2 * j + 1 < length t → getD t (2 * j) 0 ≡ h → code-of h t ≡ getD t (2 * j + 1) 0
-unfolding code-of
+row-found : (least : ℕ) (t : List ℕ) (h j : ℕ) → rows least t ≡ true → 2 * j + 1 < length t → getD t (2 * j) 0 ≡ h → survey-code h t ≡ getD t (2 * j + 1) 0
+unfolding survey-code
 row-found least [] h j e l q = absurd (omega arith)
 row-found least (x ∷ []) h j e l q = absurd (odd least x e)
-row-found least (x ∷ c ∷ t) h zero e l q = ap (λ (b : Bool). pick b c (code-of h t)) (eq-eqb x h q)
+row-found least (x ∷ c ∷ t) h zero e l q = ap (λ (b : Bool). pick b c (survey-code h t)) (eq-eqb x h q)
 row-found least (x ∷ c ∷ t) h (suc j) e l q =
     let f = row-facts least x c t e in
     let p : getD t (2 * j) 0 ≡ h = sym (next t x c j) ∙ q in
     let low : x + 1 ≤ getD t (2 * j) 0 = rows-least (x + 1) t j (f .rest) (omega arith) in
-    ap (λ (b : Bool). pick b c (code-of h t)) (ne-eqb x h (λ r. omega arith)) ∙ row-found (x + 1) t h j (f .rest) (omega arith) p ∙ sym (next-one t x c j)
+    ap (λ (b : Bool). pick b c (survey-code h t)) (ne-eqb x h (λ r. omega arith)) ∙ row-found (x + 1) t h j (f .rest) (omega arith) p ∙ sym (next-one t x c j)
 
 -- a code that is found is a row's
 behind : (x c h d : ℕ) (t : List ℕ) → Row t h d → Row (x ∷ c ∷ t) h d
@@ -56,30 +56,30 @@ behind x c h d t r =
     let i = r .inside in
     record { index = suc (r .index); inside = omega arith; home = next t x c (r .index) ∙ r .home; code = next-one t x c (r .index) ∙ r .code }
 
-first-row : (x c h : ℕ) (t : List ℕ) (b : Bool) → eqb x h ≡ b → (pick b c (code-of h t) ≢ no-survey) →
-    (code-of h t ≢ no-survey → Row t h (code-of h t)) → Row (x ∷ c ∷ t) h (pick b c (code-of h t))
+first-row : (x c h : ℕ) (t : List ℕ) (b : Bool) → eqb x h ≡ b → (pick b c (survey-code h t) ≢ no-survey) →
+    (survey-code h t ≢ no-survey → Row t h (survey-code h t)) → Row (x ∷ c ∷ t) h (pick b c (survey-code h t))
 first-row x c h t true e n i = record { index = 0; inside = omega arith; home = eqb-true x h e; code = refl }
-first-row x c h t false e n i = behind x c h (code-of h t) t (i n)
+first-row x c h t false e n i = behind x c h (survey-code h t) t (i n)
 
-row-sought : (t : List ℕ) (h : ℕ) → code-of h t ≢ no-survey → Row t h (code-of h t)
-unfolding code-of
+row-sought : (t : List ℕ) (h : ℕ) → survey-code h t ≢ no-survey → Row t h (survey-code h t)
+unfolding survey-code
 row-sought [] h n = absurd (n refl)
 row-sought (x ∷ []) h n = absurd (n refl)
 row-sought (x ∷ c ∷ t) h n = first-row x c h t (eqb x h) refl n (row-sought t h)
 
 module _ (t : List ℕ) (h : ℕ) (table : rows 0 t ≡ true) where
-  has : (c : ℕ) → Row t h c → code-of h t ≡ c
+  has : (c : ℕ) → Row t h c → survey-code h t ≡ c
   has c r = row-found 0 t h (r .index) table (r .inside) (r .home) ∙ r .code
 
-  code-exactly : (c : ℕ) → c ≢ no-survey → (code-of h t ≡ c) ↔ Row t h c
+  code-exactly : (c : ℕ) → c ≢ no-survey → (survey-code h t ≡ c) ↔ Row t h c
   code-exactly c n = (λ e. subst (Row t h) e (row-sought t h (λ q. n (sym e ∙ q))), has c)
 
-  none-exactly : (code-of h t ≡ no-survey) ↔ ((c : ℕ) → Row t h c → ⊥)
-  none-exactly = (λ e c r. rows-code 0 t (r .index) table (r .inside) (r .code ∙ sym (has c r) ∙ e), λ f. go f (eqb (code-of h t) no-survey) refl)
+  none-exactly : (survey-code h t ≡ no-survey) ↔ ((c : ℕ) → Row t h c → ⊥)
+  none-exactly = (λ e c r. rows-code 0 t (r .index) table (r .inside) (r .code ∙ sym (has c r) ∙ e), λ f. go f (eqb (survey-code h t) no-survey) refl)
     where
-      go : ((c : ℕ) → Row t h c → ⊥) → (b : Bool) → eqb (code-of h t) no-survey ≡ b → code-of h t ≡ no-survey
-      go f true e = eqb-true (code-of h t) no-survey e
-      go f false e = absurd (f (code-of h t) (row-sought t h (eqb-false (code-of h t) no-survey e)))
+      go : ((c : ℕ) → Row t h c → ⊥) → (b : Bool) → eqb (survey-code h t) no-survey ≡ b → survey-code h t ≡ no-survey
+      go f true e = eqb-true (survey-code h t) no-survey e
+      go f false e = absurd (f (survey-code h t) (row-sought t h (eqb-false (survey-code h t) no-survey e)))
 
 -- ---- the output that the definition gives is right
 
@@ -97,7 +97,7 @@ module _ (hs t old : List ℕ) (form : InForm hs t (length old)) where
   word : (k : ℕ) → k < 2 * length hs → getD out k 0 ≡ getD words k 0
   word k l = List·getD-append words (drop (0 + length words) old) 0 k (omega (arith, joined-length hs t))
 
-  code-word : (k : ℕ) → k < length hs → getD out (2 * k + 1) 0 ≡ code-of (getD hs k 0) t
+  code-word : (k : ℕ) → k < length hs → getD out (2 * k + 1) 0 ≡ survey-code (getD hs k 0) t
   code-word k l = word (2 * k + 1) (omega arith) ∙ joined-code hs t k l
 
   -- and one behind them
@@ -186,7 +186,7 @@ unfolding joined with-code without-code
 counted [] t = refl
 counted (h ∷ hs) t =
     let i = counted hs t in
-    let p = one-of (eqb (code-of h t) no-survey) in
+    let p = one-of (eqb (survey-code h t) no-survey) in
     omega arith
 
 -- counted on the words of a right output

@@ -43,15 +43,15 @@ formed hs t room =
 -- ---- what is written
 
 -- the code of a home's row
-unfoldable pub code-of : ℕ → List ℕ → ℕ
-code-of h [] = no-survey
-code-of h (x ∷ []) = no-survey
-code-of h (x ∷ c ∷ t) = pick (eqb x h) c (code-of h t)
+unfoldable pub survey-code : ℕ → List ℕ → ℕ
+survey-code h [] = no-survey
+survey-code h (x ∷ []) = no-survey
+survey-code h (x ∷ c ∷ t) = pick (eqb x h) c (survey-code h t)
 
 -- "every home in the list's order with its survey code, or 4294967295 where no survey exists"
 unfoldable pub joined : (hs t : List ℕ) → List ℕ
 joined [] t = []
-joined (h ∷ hs) t = h ∷ code-of h t ∷ joined hs t
+joined (h ∷ hs) t = h ∷ survey-code h t ∷ joined hs t
 
 -- the writing step: its words, or the refusal
 unfoldable pub write-call : (hs t : List ℕ) (room : ℕ) → Result (List ℕ)

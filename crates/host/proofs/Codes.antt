@@ -21,7 +21,7 @@ use Rattle.register.specs.Calls.{Lent, open-call, say-call, request-call, check
 use Rattle.register.proofs.Bounds.{Number, open-bound, say-bound, request-bound, check-bound}
 use Rattle.shared_tests.proofs.OwnTests.{words-within}
 use Rattle.check_call.proofs.Checks.{handed-type, handed-nothing}
-use Rattle.say.specs.Said.{said-answer, Says-so}
+use Rattle.say.specs.Said.{said-answer, Says-as}
 use Rattle.say.specs.declared.Said.{Said}
 use Rattle.say.specs.declared.Said.the-variants.{Added, Held, Fault as Not-said}
 use Rattle.extract.specs.Extract.{extract-call}
@@ -57,8 +57,8 @@ module _ (o : Result (Unit {0})) (r : Verdict) (v : verdict-answer r ≡ o) wher
   pub granted-code : r ≡ Passed → 0 ≡ code-of o
   granted-code q = ap code-of (sym (ap verdict-answer q) ∙ v)
 
-  pub not-granted : (m p : ℕ) → r ≡ Fault m p → o ≡ refused m p
-  not-granted m p q = sym v ∙ ap verdict-answer q
+  pub not-granted-is : (m p : ℕ) → r ≡ Fault m p → o ≡ refused m p
+  not-granted-is m p q = sym v ∙ ap verdict-answer q
 
 pub open-fits : (l : Lent) (reg rules : List ℕ) (m p : ℕ) → length (l .sig) + length rules < place-limit → open-call l reg rules ≡ refused m p → Fits m p
 open-fits l reg rules m p h e = let (n, q) = open-bound l reg rules e in omega arith
@@ -74,7 +74,7 @@ extract-fits l reg k homes surveys room m p h e = let (n, q) = extract-bound l r
 
 -- ---- say
 
-module _ (l : Lent) (old : List ℕ) (st : Statement) (new : List ℕ) (r : Said) (S : Says-so l old st new r) where
+module _ (l : Lent) (old : List ℕ) (st : Statement) (new : List ℕ) (r : Said) (S : Says-as l old st new r) where
   abbrev o : Result Bool
   o = say-call l old st
 

@@ -1,4 +1,4 @@
--- Every refusal of a call on the register has one of the numbers that documents 01 and 02 give it, and a place within what
+-- Every bounded-refusal of a call on the register has one of the numbers that documents 01 and 02 give it, and a place within what
 -- was lent.
 use Prim.Native.Nat.{ℕ, zero, suc, _+_, _≤_}
 use mathlib.Core.Path.{_≡_, refl, sym, ap, _∙_}
@@ -31,18 +31,18 @@ use Rattle.register.specs.Calls.{Lent, Outline, View, outline-of, fresh-
 use Rattle.register.specs.Calls.{at-rule, with-rule, rule-numbers, rule-own, opening, open-own, open-call, read-call}
 use Rattle.register.proofs.Opening.{next-rule-rest}
 
--- a refusal number of document 01 or 02, of a call on the register: 21 is the extract desk's alone
+-- a bounded-refusal number of document 01 or 02, of a call on the register: 21 is the extract desk's alone
 abbrev pub Number : ℕ → Type 0
 Number m = (1 ≤ m) × (m ≤ last-number) × (m ≢ out-of-form)
 
--- where a result is a refusal, it has such a number and a place up to the bound
+-- where a result is a bounded-refusal, it has such a number and a place up to the bound
 pub data Within {X : Type 0} (bound : ℕ) : Result X → Type 0 where
   passed : {x : X} → Within bound (ok x)
   inside : {m p : ℕ} → Number m → p ≤ bound → Within bound (refused m p)
 
-pub refusal : {X : Type 0} {bound m p : ℕ} {r : Result X} → Within bound r → r ≡ refused m p → Number m × (p ≤ bound)
-refusal passed e = absurd (clash (cc))
-refusal {m} {p} (inside {m = m′} {p = p′} h k) e = let n : m′ ≡ m = cc in let l : p′ ≡ p = cc in (omega arith, omega arith)
+pub bounded-refusal : {X : Type 0} {bound m p : ℕ} {r : Result X} → Within bound r → r ≡ refused m p → Number m × (p ≤ bound)
+bounded-refusal passed e = absurd (clash (cc))
+bounded-refusal {m} {p} (inside {m = m′} {p = p′} h k) e = let n : m′ ≡ m = cc in let l : p′ ≡ p = cc in (omega arith, omega arith)
 
 -- ---- results put together
 
@@ -262,7 +262,7 @@ rule-numbers-within : {bound : ℕ} (at : ℕ) (st : Statement) (n : ℕ) → at
 rule-numbers-within at st n h =
     tested-within (payload (st .principal)) _ at _ (omega arith) h λ _. require-within (leb 1 n && leb n most-statement-words) _ at (omega arith) h
 
--- a refusal of a rule is at its principal word
+-- a bounded-refusal of a rule is at its principal word
 opening-within : {bound : ℕ} (k : ℕ) (Σ : List Term) (at : ℕ) (rs : List Record) (ws : List ℕ) → at + length ws ≤ bound → Within bound (opening k Σ at rs ws)
 unfolding opening
 opening-within zero Σ at rs ws h = inside {m = malformed} {p = at} (omega arith) (omega arith)
@@ -285,16 +285,16 @@ open-own-within rules s =
 -- ---- the statements, of each call
 
 pub check-bound : (l : Lent) (reg ws : List ℕ) {m p : ℕ} → check-call l reg ws ≡ refused m p → Number m × (p ≤ length (l .sig) + length ws)
-check-bound l reg ws e = refusal (shared-within l (outline-of reg) (register-records reg) (check-own ws) (records-within reg) (check-own-within ws)) e
+check-bound l reg ws e = bounded-refusal (shared-within l (outline-of reg) (register-records reg) (check-own ws) (records-within reg) (check-own-within ws)) e
 
 pub say-bound : (l : Lent) (reg : List ℕ) (st : Statement) {m p : ℕ} → say-call l reg st ≡ refused m p → Number m × (p ≤ length (l .sig) + length (st .words))
-say-bound l reg st e = refusal (shared-within l (outline-of reg) (register-records reg) (say-own st) (records-within reg) (say-own-within st)) e
+say-bound l reg st e = bounded-refusal (shared-within l (outline-of reg) (register-records reg) (say-own st) (records-within reg) (say-own-within st)) e
 
 pub request-bound : (l : Lent) (reg : List ℕ) (k : Ask) {m p : ℕ} → request-call l reg k ≡ refused m p → Number m × (p ≤ length (l .sig) + length (k .proof))
-request-bound l reg k e = refusal (shared-within l (outline-of reg) (register-records reg) (request-own k) (records-within reg) (request-own-within k)) e
+request-bound l reg k e = bounded-refusal (shared-within l (outline-of reg) (register-records reg) (request-own k) (records-within reg) (request-own-within k)) e
 
 pub open-bound : (l : Lent) (reg rules : List ℕ) {m p : ℕ} → open-call l reg rules ≡ refused m p → Number m × (p ≤ length (l .sig) + length rules)
-open-bound l reg rules e = refusal (shared-within l (fresh-outline (length reg)) (ok []) (open-own rules) passed (open-own-within rules)) e
+open-bound l reg rules e = bounded-refusal (shared-within l (fresh-outline (length reg)) (ok []) (open-own rules) passed (open-own-within rules)) e
 
 -- read names no place
 read-within-none : (reg : List ℕ) (k : ℕ) → Within 0 (read-call reg k)
@@ -304,4 +304,4 @@ read-within-none reg k =
     known-within _ 0 (getElem? rs k) (omega arith) (omega arith))
 
 pub read-bound : (reg : List ℕ) (k : ℕ) {m p : ℕ} → read-call reg k ≡ refused m p → Number m × (p ≡ 0)
-read-bound reg k e = let (m, p) = refusal (read-within-none reg k) e in (m, omega arith)
+read-bound reg k e = let (m, p) = bounded-refusal (read-within-none reg k) e in (m, omega arith)

@@ -13,7 +13,7 @@ use Rattle.register.specs.Succeeds.{Adds, added-now, Sayable, Grantable}
 use Rattle.register.specs.Leaves.{Leaves, Leaving}
 use Rattle.register.proofs.Words.{words-append, register-of, register-of-appended, Stores, stores-used, stores-appended}
 use Rattle.register.proofs.Succeeds.{demand2}
-use Rattle.register.proofs.Opening.{opened as opened-stores}
+use Rattle.register.proofs.Opening.{opened-stores as opened-stores}
 
 -- the words behind the records
 behind-records : (rs : List Record) (tail : List ℕ) (n : ℕ) → drop (used-by rs + n) (register-of rs tail) ≡ drop n tail

@@ -22,8 +22,8 @@ abbrev pub lends : Lent
 lends = with-lent 12288 (listed sample) 1
 
 -- a constant of no words
-abbrev pub no-constant : List ℕ
-no-constant = 0 ∷ []
+abbrev pub constant-of-none : List ℕ
+constant-of-none = 0 ∷ []
 
 -- a register with a used count past its end; one of two words, with no records
 abbrev pub broken-register : List ℕ
@@ -52,10 +52,10 @@ listed-rule a q = a ∷ size q ∷ encode q
 
 pub record CallOrder : Type 0 where
   -- check: 1 to 8, then 9 to 12 and 18 to 20 as met, then 14
-  pub check-1 : check-call (with-lent 12287 no-constant 0) [] [] ≡ refused 1 0
-  pub check-2 : check-call (with-lent 12288 no-constant 0) [] [] ≡ refused 2 0
-  pub check-3 : check-call (with-lent 12288 no-constant 0) broken-register [] ≡ refused 3 0
-  pub check-4 : check-call (with-lent 12288 no-constant 0) empty-register [] ≡ refused 4 0
+  pub check-1 : check-call (with-lent 12287 constant-of-none 0) [] [] ≡ refused 1 0
+  pub check-2 : check-call (with-lent 12288 constant-of-none 0) [] [] ≡ refused 2 0
+  pub check-3 : check-call (with-lent 12288 constant-of-none 0) broken-register [] ≡ refused 3 0
+  pub check-4 : check-call (with-lent 12288 constant-of-none 0) empty-register [] ≡ refused 4 0
   pub check-5 : check-call (with-lent 12288 (listed sample) 0) empty-register [] ≡ refused 5 0
   pub check-6 : check-call lends empty-register [] ≡ refused 6 0
   pub check-6-long : check-call lends empty-register (replicate 2049 0) ≡ refused 6 0
@@ -67,10 +67,10 @@ pub record CallOrder : Type 0 where
   pub check-20 : check-call lends empty-register (encode escape) ≡ refused 20 0
   pub check-14 : check-call lends empty-register (encode (sign 3 consent)) ≡ refused 14 0
   -- request: the same, i, v and u before the proof, and 13, 14, 16
-  pub request-1 : request-call (with-lent 12287 no-constant 0) [] (ask-of 1 16777216 16777216 []) ≡ refused 1 0
-  pub request-2 : request-call (with-lent 12288 no-constant 0) [] (ask-of 1 16777216 16777216 []) ≡ refused 2 0
-  pub request-3 : request-call (with-lent 12288 no-constant 0) broken-register (ask-of 1 16777216 16777216 []) ≡ refused 3 0
-  pub request-4 : request-call (with-lent 12288 no-constant 0) empty-register (ask-of 1 16777216 16777216 []) ≡ refused 4 0
+  pub request-1 : request-call (with-lent 12287 constant-of-none 0) [] (ask-of 1 16777216 16777216 []) ≡ refused 1 0
+  pub request-2 : request-call (with-lent 12288 constant-of-none 0) [] (ask-of 1 16777216 16777216 []) ≡ refused 2 0
+  pub request-3 : request-call (with-lent 12288 constant-of-none 0) broken-register (ask-of 1 16777216 16777216 []) ≡ refused 3 0
+  pub request-4 : request-call (with-lent 12288 constant-of-none 0) empty-register (ask-of 1 16777216 16777216 []) ≡ refused 4 0
   pub request-5-i : request-call lends empty-register (ask-of 1 7 9 []) ≡ refused 5 0
   pub request-5-v : request-call lends empty-register (ask-of 0 16777216 9 []) ≡ refused 5 0
   pub request-5-u : request-call lends empty-register (ask-of 0 7 16777216 []) ≡ refused 5 0
@@ -82,10 +82,10 @@ pub record CallOrder : Type 0 where
   pub request-13 : request-call lends empty-register (ask-of 0 7 9 (encode (sign 3 consent))) ≡ refused 13 0
   pub request-14 : request-call lends empty-register (ask-of 0 7 9 (encode p)) ≡ refused 14 1
   -- say: 5 for n before 15, 15 before the proposition, whose limits are one less, 14 before 16
-  pub say-1 : say-call (with-lent 12287 no-constant 0) [] (statement-of 0 []) ≡ refused 1 0
-  pub say-2 : say-call (with-lent 12288 no-constant 0) [] (statement-of 0 []) ≡ refused 2 0
-  pub say-3 : say-call (with-lent 12288 no-constant 0) broken-register (statement-of 0 []) ≡ refused 3 0
-  pub say-4 : say-call (with-lent 12288 no-constant 0) empty-register (statement-of 0 []) ≡ refused 4 0
+  pub say-1 : say-call (with-lent 12287 constant-of-none 0) [] (statement-of 0 []) ≡ refused 1 0
+  pub say-2 : say-call (with-lent 12288 constant-of-none 0) [] (statement-of 0 []) ≡ refused 2 0
+  pub say-3 : say-call (with-lent 12288 constant-of-none 0) broken-register (statement-of 0 []) ≡ refused 3 0
+  pub say-4 : say-call (with-lent 12288 constant-of-none 0) empty-register (statement-of 0 []) ≡ refused 4 0
   pub say-5 : say-call (with-lent 12288 (listed sample) 0) empty-register (statement-of 0 []) ≡ refused 5 0
   pub say-5-principal : say-call lends empty-register (statement-of 16777216 []) ≡ refused 5 0
   pub say-15 : say-call lends empty-register (statement-of 0 []) ≡ refused 15 0
@@ -100,9 +100,9 @@ pub record CallOrder : Type 0 where
   pub say-14 : say-call lends empty-register (statement-of 4 (encode embeds)) ≡ refused 14 14
   pub say-16 : say-call lends empty-register (statement-of 3 (encode consent)) ≡ refused 16 0
   -- open: no 3; then rules in turn, each at its principal word; 16 last
-  pub open-1 : open-call (with-lent 12287 no-constant 0) [] (16777216 ∷ []) ≡ refused 1 0
-  pub open-2 : open-call (with-lent 12288 no-constant 0) [] (16777216 ∷ []) ≡ refused 2 0
-  pub open-4 : open-call (with-lent 12288 no-constant 0) broken-register (16777216 ∷ []) ≡ refused 4 0
+  pub open-1 : open-call (with-lent 12287 constant-of-none 0) [] (16777216 ∷ []) ≡ refused 1 0
+  pub open-2 : open-call (with-lent 12288 constant-of-none 0) [] (16777216 ∷ []) ≡ refused 2 0
+  pub open-4 : open-call (with-lent 12288 constant-of-none 0) broken-register (16777216 ∷ []) ≡ refused 4 0
   pub open-5 : open-call (with-lent 12288 (listed sample) 0) broken-register (listed-rule 0 rule ++ (16777216 ∷ [])) ≡ refused 5 0
   pub open-rule-5 : open-call lends broken-register (listed-rule 0 rule ++ (16777216 ∷ 0 ∷ [])) ≡ refused 5 15
   pub open-rule-6 : open-call lends broken-register (listed-rule 0 rule ++ (0 ∷ 0 ∷ [])) ≡ refused 6 15

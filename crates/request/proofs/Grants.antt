@@ -29,7 +29,7 @@ use Rattle.typing.proofs.Checks.{and-false}
 use Rattle.records.specs.Answers.{Room, unheld-answer}
 use Rattle.records.specs.declared.search.Unheld.{Unheld}
 use Rattle.records.specs.declared.search.Unheld.the-variants.{Nowhere, At}
-use Rattle.records.proofs.Adds.{entry-length, room}
+use Rattle.records.proofs.Adds.{entry-length, room-for}
 use Rattle.register.specs.Records.{Record, Ask, used, held, words-of, appended, entry-extra}
 use Rattle.register.specs.Calls.{Lent, payload, permission, entry, ask-test, signs-held, view, outline-of, proved-own, request-own, request-call, after-request}
 use Rattle.register.specs.Succeeds.{Grantable}
@@ -39,7 +39,7 @@ use Rattle.shared_tests.specs.Shared.{Prepared-as}
 use Rattle.shared_tests.specs.declared.Ready.{Ready}
 use Rattle.shared_tests.specs.declared.Ready.the-variants.{Fault as Unready}
 use Rattle.shared_tests.proofs.OwnTests.{Passed-so, not-prepared, typed-so, Typed-so, typed-refused, Type-found, type-found, type-refused, words-within}
-use Rattle.request.specs.Requested.{Requested}
+use Rattle.request.specs.Requested.{Requested-as}
 
 -- ---- test 5 of the call's own numbers
 
@@ -80,25 +80,25 @@ module _ (l : Lent) (Σ : List Term) (rs : List Record) (reg : List ℕ) (k : As
   abbrev entry-fits : Bool
   entry-fits = leb (used reg + length (words-of (entry k))) (length reg)
 
-  pub another : wanted ≡ false → refused another-proposition 0 ≡ tests
-  another q = ap (λ (b : Bool). in-turn b (signs-held (held rs) t) entry-fits) (sym q ∙ right)
+  pub request-another : wanted ≡ false → refused another-proposition 0 ≡ tests
+  request-another q = ap (λ (b : Bool). in-turn b (signs-held (held rs) t) entry-fits) (sym q ∙ right)
 
   module _ (q : wanted ≡ true) (x : Unheld) (e : unheld-answer x ≡ signs-held (held rs) t) where
     wanted-proved : tests ≡ (signs-held (held rs) t >> require entry-fits register-full 0)
     wanted-proved = ap (λ (b : Bool). in-turn b (signs-held (held rs) t) entry-fits) (sym right ∙ q)
 
-    pub unheld : (place : ℕ) → x ≡ At place → refused not-held place ≡ tests
-    unheld place f = sym (wanted-proved ∙ ap (λ s. s >> require entry-fits register-full 0) (sym e ∙ ap unheld-answer f))
+    pub request-unheld : (place : ℕ) → x ≡ At place → refused not-held place ≡ tests
+    request-unheld place f = sym (wanted-proved ∙ ap (λ s. s >> require entry-fits register-full 0) (sym e ∙ ap unheld-answer f))
 
     module _ (f : x ≡ Nowhere) where
       signs-found : tests ≡ require entry-fits register-full 0
       signs-found = wanted-proved ∙ ap (λ s. s >> require entry-fits register-full 0) (sym e ∙ ap unheld-answer f)
 
-      pub full : length reg - used reg < length (k .proof) + entry-extra → refused register-full 0 ≡ tests
-      full h = sym (signs-found ∙ ap (λ (b : Bool). require b register-full 0) (lt-leb (used reg + length (words-of (entry k))) (length reg) (omega (arith, entry-length k))))
+      pub request-full : length reg - used reg < length (k .proof) + entry-extra → refused register-full 0 ≡ tests
+      request-full h = sym (signs-found ∙ ap (λ (b : Bool). require b register-full 0) (lt-leb (used reg + length (words-of (entry k))) (length reg) (omega (arith, entry-length k))))
 
-      pub enough : used reg ≤ length reg → length (k .proof) + entry-extra ≤ length reg - used reg → ok tt ≡ tests
-      enough w h = sym (signs-found ∙ ap (λ (b : Bool). require b register-full 0) (le-leb (used reg + length (words-of (entry k))) (length reg) (omega (arith, entry-length k))))
+      pub request-enough : used reg ≤ length reg → length (k .proof) + entry-extra ≤ length reg - used reg → ok tt ≡ tests
+      request-enough w h = sym (signs-found ∙ ap (λ (b : Bool). require b register-full 0) (le-leb (used reg + length (words-of (entry k))) (length reg) (omega (arith, entry-length k))))
 
 -- ---- all tests
 
@@ -127,26 +127,26 @@ module _ (l : Lent) (reg table : List ℕ) (k : Ask) (r : Ready) (P : Prepared-a
           let (d, f) = both-true (ltb (k .operation) (l .n)) (payload (k .extract)) a in
           (ltb-true (k .operation) (l .n) d, ltb-true (k .extract) payloads f, ltb-true (k .delivery) payloads c)
 
-      pub not-typed : (new : List ℕ) (d : Derivation) (m place : ℕ) → Judged (typed-term (so .Σ) most-words most-nesting (k .proof)) (length (k .proof)) new d → d ≡ Refused m place → refused m place ≡ request-call l reg k
-      not-typed new d m place J f = sym (numbers-right ∙ ap (λ x. x >>= behind) (typed-refused (so .Σ) (k .proof) m place (type-refused _ _ new d m place J f)))
+      pub request-not-typed : (new : List ℕ) (d : Derivation) (m place : ℕ) → Judged (typed-term (so .Σ) most-words most-nesting (k .proof)) (length (k .proof)) new d → d ≡ Refused m place → refused m place ≡ request-call l reg k
+      request-not-typed new d m place J f = sym (numbers-right ∙ ap (λ x. x >>= behind) (typed-refused (so .Σ) (k .proof) m place (type-refused _ _ new d m place J f)))
 
       module _ (new : List ℕ) (d : Derivation) (words end : ℕ) (J : Judged (typed-term (so .Σ) most-words most-nesting (k .proof)) (length (k .proof)) new d) (f : d ≡ Typed words end) where
-        pub type-here : Type-found (typed-term (so .Σ) most-words most-nesting (k .proof)) new words
-        type-here = type-found _ _ new d words end J f
+        pub request-type : Type-found (typed-term (so .Σ) most-words most-nesting (k .proof)) new words
+        request-type = type-found _ _ new d words end J f
 
-        pub term-here : Typed-so (so .Σ) (k .proof) (type-here .type)
-        term-here = typed-so (so .Σ) (k .proof) (type-here .type) (type-here .is)
+        pub request-term : Typed-so (so .Σ) (k .proof) (request-type .type)
+        request-term = typed-so (so .Σ) (k .proof) (request-type .type) (request-type .is)
 
         pub words-inside : words ≤ length new
         words-inside = words-within _ _ new d J words end f
 
-        pub proved : (x : Verdict) → verdict-answer x ≡ behind (record { term = term-here .term; type = type-here .type }) → verdict-answer x ≡ request-call l reg k
-        proved x g = g ∙ sym (numbers-right ∙ ap (λ y. y >>= behind) (term-here .is))
+        pub proved : (x : Verdict) → verdict-answer x ≡ behind (record { term = request-term .term; type = request-type .type }) → verdict-answer x ≡ request-call l reg k
+        proved x g = g ∙ sym (numbers-right ∙ ap (λ y. y >>= behind) (request-term .is))
 
 -- ---- what a request leaves
 
 module _ (l : Lent) (reg : List ℕ) (k : Ask) (r : Verdict) (e : verdict-answer r ≡ request-call l reg k) where
-  pub request-refused : (m place : ℕ) → r ≡ Fault m place → Requested l reg k reg r
+  pub request-refused : (m place : ℕ) → r ≡ Fault m place → Requested-as l reg k reg r
   request-refused m place q = record { answer = e; register = ap (λ (o : Result (Unit {0})). after-request o reg k) (sym (ap verdict-answer q) ∙ e) }
 
   module _ (q : r ≡ Passed) where
@@ -159,7 +159,7 @@ module _ (l : Lent) (reg : List ℕ) (k : Ask) (r : Verdict) (e : verdict-answer
     pub grant-room : Room reg (entry k)
     grant-room =
         let G = grantable-now in
-        room reg (entry k) (record { found = G .proof .rs; reads = unbroken-right reg (G .proof .rs) .1 (G .proof .unbroken) }) (G .proof .ready .not-longer) (G .room)
+        room-for reg (entry k) (record { found = G .proof .rs; reads = unbroken-right reg (G .proof .rs) .1 (G .proof .unbroken) }) (G .proof .ready .not-longer) (G .room)
 
-    pub request-granted : (new : List ℕ) → new ≡ appended reg (entry k) → Requested l reg k new Passed
+    pub request-granted : (new : List ℕ) → new ≡ appended reg (entry k) → Requested-as l reg k new Passed
     request-granted new f = record { answer = sym granted; register = f ∙ sym (ap (λ (o : Result (Unit {0})). after-request o reg k) granted) }

@@ -23,7 +23,7 @@ use Rattle.typing.proofs.Verdicts.{fault-told, passed-told}
 use Rattle.records.specs.Answers.{Room, unheld-answer}
 use Rattle.records.specs.declared.search.Unheld.{Unheld}
 use Rattle.records.specs.declared.search.Unheld.the-variants.{Nowhere, At}
-use Rattle.records.proofs.Adds.{statement-length, room}
+use Rattle.records.proofs.Adds.{statement-length, room-for}
 use Rattle.register.specs.Records.{Record, Statement, used, held, words-of, appended, statement-extra, say-kind}
 use Rattle.register.specs.Calls.{Lent, signs-held, view, outline-of, say-entry, stated-own, say-own, say-call, after-say}
 use Rattle.register.specs.Succeeds.{Adds, added-now}
@@ -33,7 +33,7 @@ use Rattle.shared_tests.specs.Shared.{Prepared-as}
 use Rattle.shared_tests.specs.declared.Ready.{Ready}
 use Rattle.shared_tests.specs.declared.Ready.the-variants.{Fault as Unready}
 use Rattle.shared_tests.proofs.OwnTests.{Passed-so, not-prepared}
-use Rattle.say.specs.Said.{said-answer, Says-so}
+use Rattle.say.specs.Said.{said-answer, Says-as}
 use Rattle.say.specs.declared.Said.{Said}
 use Rattle.say.specs.declared.Said.the-variants.{Added, Held, Fault}
 
@@ -49,22 +49,22 @@ module _ (l : Lent) (Σ : List Term) (rs : List Record) (reg : List ℕ) (st : S
   abbrev statement-fits : Bool
   statement-fits = leb (used reg + length (words-of (say-entry st))) (length reg)
 
-  pub unheld : (place : ℕ) → x ≡ At place → refused not-held place ≡ tests
-  unheld place f = ap (λ s. in-turn s (held rs (st .principal) (st .words)) statement-fits) (sym (ap unheld-answer f) ∙ e)
+  pub say-unheld : (place : ℕ) → x ≡ At place → refused not-held place ≡ tests
+  say-unheld place f = ap (λ s. in-turn s (held rs (st .principal) (st .words)) statement-fits) (sym (ap unheld-answer f) ∙ e)
 
   module _ (f : x ≡ Nowhere) (h : Bool) (g : h ≡ held rs (st .principal) (st .words)) where
     signs-found : (b : Bool) → h ≡ b → tests ≡ pick b (ok false) (require statement-fits register-full 0 >> ok true)
     signs-found b k = ap (λ s. in-turn s (held rs (st .principal) (st .words)) statement-fits) (sym e ∙ ap unheld-answer f) ∙ ap (λ (y : Bool). pick y (ok false) (require statement-fits register-full 0 >> ok true)) (sym g ∙ k)
 
-    pub repeated : h ≡ true → ok false ≡ tests
-    repeated k = sym (signs-found true k)
+    pub say-repeated : h ≡ true → ok false ≡ tests
+    say-repeated k = sym (signs-found true k)
 
     module _ (k : h ≡ false) where
-      pub full : length reg - used reg < length (st .words) + statement-extra → refused register-full 0 ≡ tests
-      full l = sym (signs-found false k ∙ ap (λ (b : Bool). require b register-full 0 >> ok true) (lt-leb (used reg + length (words-of (say-entry st))) (length reg) (omega (arith, statement-length say-kind st))))
+      pub say-full : length reg - used reg < length (st .words) + statement-extra → refused register-full 0 ≡ tests
+      say-full l = sym (signs-found false k ∙ ap (λ (b : Bool). require b register-full 0 >> ok true) (lt-leb (used reg + length (words-of (say-entry st))) (length reg) (omega (arith, statement-length say-kind st))))
 
-      pub enough : used reg ≤ length reg → length (st .words) + statement-extra ≤ length reg - used reg → ok true ≡ tests
-      enough w l = sym (signs-found false k ∙ ap (λ (b : Bool). require b register-full 0 >> ok true) (le-leb (used reg + length (words-of (say-entry st))) (length reg) (omega (arith, statement-length say-kind st))))
+      pub say-enough : used reg ≤ length reg → length (st .words) + statement-extra ≤ length reg - used reg → ok true ≡ tests
+      say-enough w l = sym (signs-found false k ∙ ap (λ (b : Bool). require b register-full 0 >> ok true) (le-leb (used reg + length (words-of (say-entry st))) (length reg) (omega (arith, statement-length say-kind st))))
 
 -- ---- tests 6 to 12
 
@@ -99,26 +99,26 @@ module _ (l : Lent) (reg table : List ℕ) (st : Statement) (r : Ready) (P : Pre
     principal-over h = sym (so .is ∙ ap (λ (b : Bool). numbered b (eqb (st .principal) 0)) (le-ltb (st .principal) payloads h))
 
     module _ (h : st .principal < payloads) where
-      pub by-desk : st .principal ≡ 0 → refused desk-says 0 ≡ say-call l reg st
-      by-desk e = sym (so .is ∙ ap (λ (b : Bool). numbered b (eqb (st .principal) 0)) (lt-ltb (st .principal) payloads h) ∙ ap (numbered true) (eq-eqb (st .principal) 0 e))
+      pub say-by-desk : st .principal ≡ 0 → refused desk-says 0 ≡ say-call l reg st
+      say-by-desk e = sym (so .is ∙ ap (λ (b : Bool). numbered b (eqb (st .principal) 0)) (lt-ltb (st .principal) payloads h) ∙ ap (numbered true) (eq-eqb (st .principal) 0 e))
 
       module _ (n : st .principal ≡ 0 → ⊥) (d : Verdict) (e : verdict-answer d ≡ without-value (check-statement (so .Σ) (st .principal) (st .words))) where
         numbers-right : say-call l reg st ≡ behind (check-statement (so .Σ) (st .principal) (st .words))
         numbers-right = so .is ∙ ap (λ (b : Bool). numbered b (eqb (st .principal) 0)) (lt-ltb (st .principal) payloads h) ∙ ap (numbered true) (ne-eqb (st .principal) 0 n)
 
-        pub not-stated : (m place : ℕ) → d ≡ Refusal m place → refused m place ≡ say-call l reg st
-        not-stated m place q = sym (numbers-right ∙ ap behind (fault-told (check-statement (so .Σ) (st .principal) (st .words)) d m place e q))
+        pub say-not-stated : (m place : ℕ) → d ≡ Refusal m place → refused m place ≡ say-call l reg st
+        say-not-stated m place q = sym (numbers-right ∙ ap behind (fault-told (check-statement (so .Σ) (st .principal) (st .words)) d m place e q))
 
-        pub stated : (S : Statement-so (so .Σ) st) (x : Said) → said-answer x ≡ stated-own st (S .term) (view l (outline-of reg) (so .rs) (so .Σ)) → said-answer x ≡ say-call l reg st
-        stated S x g = g ∙ sym (numbers-right ∙ ap behind (S .is))
+        pub say-stated : (S : Statement-so (so .Σ) st) (x : Said) → said-answer x ≡ stated-own st (S .term) (view l (outline-of reg) (so .rs) (so .Σ)) → said-answer x ≡ say-call l reg st
+        say-stated S x g = g ∙ sym (numbers-right ∙ ap behind (S .is))
 
 -- ---- what a say leaves
 
 module _ (l : Lent) (reg : List ℕ) (st : Statement) (r : Said) (e : said-answer r ≡ say-call l reg st) where
-  pub say-refused : (m place : ℕ) → r ≡ Fault m place → Says-so l reg st reg (Fault m place)
+  pub say-refused : (m place : ℕ) → r ≡ Fault m place → Says-as l reg st reg (Fault m place)
   say-refused m place q = let h = sym (ap said-answer q) ∙ e in record { answer = h; register = ap (λ (o : Result Bool). after-say o reg st) h }
 
-  pub say-held : r ≡ Held → Says-so l reg st reg Held
+  pub say-held : r ≡ Held → Says-as l reg st reg Held
   say-held q = let h = sym (ap said-answer q) ∙ e in record { answer = h; register = ap (λ (o : Result Bool). after-say o reg st) h }
 
   module _ (q : r ≡ Added) where
@@ -128,10 +128,10 @@ module _ (l : Lent) (reg : List ℕ) (st : Statement) (r : Said) (e : said-answe
     pub say-room : Room reg (say-entry st)
     say-room =
         let S = demand2 .says l reg st true .0 added in
-        room reg (say-entry st) (record { found = S .rs; reads = unbroken-right reg (S .rs) .1 (S .unbroken) }) (S .ready .not-longer) (fits-now (S .adds))
+        room-for reg (say-entry st) (record { found = S .rs; reads = unbroken-right reg (S .rs) .1 (S .unbroken) }) (S .ready .not-longer) (fits-now (S .adds))
       where
         fits-now : {rs : List Record} → Adds rs reg st true → used reg + length (words-of (say-entry st)) ≤ length reg
         fits-now (added-now n f) = f
 
-    pub say-added : (new : List ℕ) → new ≡ appended reg (say-entry st) → Says-so l reg st new Added
+    pub say-added : (new : List ℕ) → new ≡ appended reg (say-entry st) → Says-as l reg st new Added
     say-added new f = record { answer = sym added; register = f ∙ sym (ap (λ (o : Result Bool). after-say o reg st) added) }

@@ -26,7 +26,7 @@ use Rattle.records.specs.declared.walk.Contents.the-variants.{Broken, Whole}
 use Rattle.records.proofs.Walks.{contents-broken, contents-whole}
 use Rattle.register.specs.Records.{Record, header, register-records}
 use Rattle.register.specs.Calls.{Lent, Outline, View, view, length-test, shared, outline-of, fresh-outline}
-use Rattle.shared_tests.specs.Shared.{lengths-test, signed, ready-answer, Signed-as, constants-found, prepared, opened, Lent-so, Prepared-as, Opened-as}
+use Rattle.shared_tests.specs.Shared.{lengths-test, signed, ready-answer, Signed-as, constants-found, prepared, prepared-to-open, Lent-so, Prepared-as, Opened-as}
 use Rattle.shared_tests.specs.declared.Ready.{Ready}
 use Rattle.shared_tests.specs.declared.Ready.the-variants.{Constants, Fault}
 
@@ -187,7 +187,7 @@ module _ (l : Lent) (len : ℕ) (table : List ℕ) where
   pub opened-as : (r : Ready) → Lengths (l .workspace) len → Signed-as (l .sig) (l .n) table r → Opened-as l len table r
   opened-as r L S =
       let h = shared-signed l (fresh-outline len) ok (ok []) [] (L .passed) refl in
-      record { answer = lent-answer l (fresh-outline len) [] table r L S (opened l len) h; passed = lent-so l (fresh-outline len) [] table r L S (opened l len) h }
+      record { answer = lent-answer l (fresh-outline len) [] table r L S (prepared-to-open l len) h; passed = lent-so l (fresh-outline len) [] table r L S (prepared-to-open l len) h }
 
 module _ (l : Lent) (reg table : List ℕ) where
   unprepared : (m p : ℕ) → prepared l reg ≡ refused m p → Prepared-as l reg table (Fault m p)

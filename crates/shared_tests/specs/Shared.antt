@@ -41,8 +41,8 @@ pub record Signed-as (sig : List ℕ) (n : ℕ) (table : List ℕ) (r : Ready) :
 abbrev pub prepared : Lent → List ℕ → Result View
 prepared l reg = on-register l reg ok
 
-abbrev pub opened : Lent → (len : ℕ) → Result View
-opened l len = shared l (fresh-outline len) (ok []) ok
+abbrev pub prepared-to-open : Lent → (len : ℕ) → Result View
+prepared-to-open l len = shared l (fresh-outline len) (ok []) ok
 
 -- how many constants they find
 abbrev pub constants-found : Result View → Result ℕ
@@ -69,5 +69,5 @@ pub record Prepared-as (l : Lent) (reg table : List ℕ) (r : Ready) : Type 0 wh
   pub passed : (v : View) → prepared l reg ≡ ok v → Register-so l reg table v
 
 pub record Opened-as (l : Lent) (len : ℕ) (table : List ℕ) (r : Ready) : Type 0 where
-  pub answer : ready-answer r ≡ constants-found (opened l len)
-  pub passed : (v : View) → opened l len ≡ ok v → Lent-so l (fresh-outline len) [] table v
+  pub answer : ready-answer r ≡ constants-found (prepared-to-open l len)
+  pub passed : (v : View) → prepared-to-open l len ≡ ok v → Lent-so l (fresh-outline len) [] table v

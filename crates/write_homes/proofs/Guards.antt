@@ -2,12 +2,12 @@
 use mathlib.Core.Path.{refl}
 use Rattle.decimal.specs.Decimal.{digits, number}
 use Rattle.number_file.specs.NumberFile.{digit, numbers, starts-with, file, fields}
-use Rattle.homes.specs.Homes.{rising, rows, formed, code-of, joined, write-call}
+use Rattle.homes.specs.Homes.{rising, rows, formed, survey-code, joined, write-call}
 use Rattle.write_homes.specs.Printed.{written-homes, shown}
 use Rattle.write_homes.specs.Guards.{PrintedGuards}
 
 pub printed-guards : PrintedGuards
-unfolding digits number digit numbers starts-with file fields rising rows formed code-of joined write-call written-homes shown
+unfolding digits number digit numbers starts-with file fields rising rows formed survey-code joined write-call written-homes shown
 printed-guards = record {
   list-bytes = refl;
   table-bytes = refl;

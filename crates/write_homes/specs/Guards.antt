@@ -5,7 +5,7 @@ use mathlib.Core.List.{List}
 use Prim.Native.Nat.{ℕ}
 use Prim.Native.String.{String}
 use Rattle.decimal.specs.Decimal.{ascii}
-use Rattle.write_homes.specs.Printed.{most-list, most-table, room, printed}
+use Rattle.write_homes.specs.Printed.{most-list, most-table, output-room, printed}
 
 -- what two texts print
 abbrev pub print-of : (homes surveys : String) → List ℕ
@@ -19,7 +19,7 @@ pub record PrintedGuards : Type 0 where
   -- 11 bytes a number at most
   pub list-bytes : most-list ≡ 11269
   pub table-bytes : most-table ≡ 90122
-  pub output-bytes : room ≡ 22538
+  pub output-bytes : output-room ≡ 22538
   -- "prints `home,code` and the result"
   pub result : print-of "home\n3\n7\n10\n" "home,code\n1,5\n3,0\n10,4294967294\n" ≡ ascii "home,code\n3,0\n7,4294967295\n10,4294967294\n"
   pub last-home : print-of "home\n4294967295\n" "home,code\n" ≡ ascii "home,code\n4294967295,4294967295\n"

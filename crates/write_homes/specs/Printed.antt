@@ -26,8 +26,8 @@ abbrev pub most-table : ℕ
 most-table = 10 + number-bytes * (2 * most-rows)
 
 -- the bytes that the longest output takes
-abbrev pub room : ℕ
-room = 10 + number-bytes * (2 * most-homes)
+abbrev pub output-room : ℕ
+output-room = 10 + number-bytes * (2 * most-homes)
 
 -- a file's bytes, if it is there
 abbrev pub given : Bool → List ℕ → Option (List ℕ)

@@ -12,7 +12,7 @@ ghost use mathlib.Core.Path.{_≡_};
 ghost use lib.ListN.{length};
 ghost use Rattle.decimal.specs.Decimal.{Put};
 ghost use Rattle.homes.specs.Homes.{most-homes, write-call};
-ghost use Rattle.write_homes.specs.Printed.{most-list, most-table, room, given, refusal, shown, printed};
+ghost use Rattle.write_homes.specs.Printed.{most-list, most-table, output-room, given, refusal, shown, printed};
 
 // The longest files in form: a first line, and the numbers with a byte behind each.
 const MOST_LIST: usize = 5 + NUMBER_BYTES * MOST_HOMES;
@@ -42,7 +42,7 @@ pub fn table_bytes() -> [u8; MOST_TABLE + 1]
 }
 
 pub fn output() -> [u8; ROOM]
-    ensures { λ r. ⌜ room ≡ length r ⌝ }
+    ensures { λ r. ⌜ output-room ≡ length r ⌝ }
 {
     [0; ROOM]
 }
@@ -67,7 +67,7 @@ fn output_words() -> [u32; OUTPUT_WORDS]
 
 // Puts the refusal.
 fn refuse(out: &mut [u8]) -> usize
-    requires { ⌜ room ≤ length (now out) ⌝ }
+    requires { ⌜ output-room ≤ length (now out) ⌝ }
     ensures { λ r. ⌜ Put (now (out .entry)) 0 refusal (now (out .exit)) r ⌝ }
 {
     put(b"refused,21\n", out, 0)
@@ -75,7 +75,7 @@ fn refuse(out: &mut [u8]) -> usize
 
 // The writing step on a list and a table, printed.
 fn print_words(homes: &[u32], surveys: &[u32], out: &mut [u8]) -> usize
-    requires { ⌜ room ≤ length (now out) ⌝ }
+    requires { ⌜ output-room ≤ length (now out) ⌝ }
     ensures { λ r. ⌜ Put (now (out .entry)) 0
         (shown (write-call (now (homes .entry)) (now (surveys .entry)) (2 * most-homes))) (now (out .exit)) r ⌝ }
 {
@@ -97,7 +97,7 @@ pub fn print(
     table: &[u8],
     out: &mut [u8],
 ) -> usize
-    requires { ⌜ room ≤ length (now out) ⌝ }
+    requires { ⌜ output-room ≤ length (now out) ⌝ }
     ensures { λ r. ⌜ Put (now (out .entry)) 0
         (printed (given «list_there» (now (list .entry))) (given «table_there» (now (table .entry)))) (now (out .exit)) r ⌝ }
 {

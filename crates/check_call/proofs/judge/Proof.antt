@@ -5,7 +5,7 @@ use Rattle.register.specs.Calls.{Lent, check-own}
 use Rattle.records.proofs.Sought.{holds-register, header-there}
 use Rattle.shared_tests.specs.Shared.{lent-of}
 use Rattle.shared_tests.proofs.OwnTests.{Passed-so, passed-so, Typed-so, table-within}
-use Rattle.check_call.proofs.Checks.{check-not-prepared, check-not-typed, type-here, term-here, check-unheld, check-held}
+use Rattle.check_call.proofs.Checks.{check-not-prepared, check-not-typed, check-type, check-term-found, check-unheld, check-held}
 use native.Mathlib.Omega.{arith}
 use borrow.Author.Needs.{needs}
 use Rattle.check_call.proofs.judge.Statement.{statement}
@@ -56,7 +56,7 @@ typed : (c : tie.After-enum-told) →
     let at-start = before-table (before-prepare at-prepare) in
     let a = at-start .args in
     Typed-so (passed at-ready2 .Σ) (a .term .now)
-    (type-here (lent-here at-start) (a .register .now) (at-prepare .prepare .last .1 .1 .1 .0) (a .term .now) (at-prepare .prepare .result)
+    (check-type (lent-here at-start) (a .register .now) (at-prepare .prepare .last .1 .1 .1 .0) (a .term .now) (at-prepare .prepare .result)
     (at-prepare .prepare .ensures) (at-ready2 .ready2 .given .0 .0) (passed at-ready2) (at-check-term .check-term .last .1 .1 .1 .1 .1 .0)
     (at-check-term .check-term .result) _ _ (at-check-term .check-term .ensures (passed at-ready2 .Σ) (passed at-ready2 .constants))
     (c .enum-told .given .1) .type)
@@ -65,7 +65,7 @@ typed c =
     let at-ready2 = before-check-term at-check-term in
     let at-prepare = before-ready2 at-ready2 in
     let at-start = before-table (before-prepare at-prepare) in
-    term-here (lent-here at-start) (at-start .args .register .now) (at-prepare .prepare .last .1 .1 .1 .0) (at-start .args .term .now)
+    check-term-found (lent-here at-start) (at-start .args .register .now) (at-prepare .prepare .last .1 .1 .1 .0) (at-start .args .term .now)
     (at-prepare .prepare .result) (at-prepare .prepare .ensures) (at-ready2 .ready2 .given .0 .0) (passed at-ready2)
     (at-check-term .check-term .last .1 .1 .1 .1 .1 .0) (at-check-term .check-term .result) _ _
     (at-check-term .check-term .ensures (passed at-ready2 .Σ) (passed at-ready2 .constants)) (c .enum-told .given .1)

@@ -1,4 +1,4 @@
--- Three ways out: the form is broken, the request is refused, or it is granted and the homes are written.
+-- Three ways out: the form is broken, the request is refused, or it is extract-granted and the homes are written.
 use mathlib.Core.Bool.{true}
 use mathlib.Core.Path.{_≡_, sym, _∙_}
 use lib.ListN.{length}
@@ -8,7 +8,7 @@ use Rattle.register.specs.Records.{Ask, ask-of}
 use Rattle.register.specs.Calls.{Lent}
 use Rattle.shared_tests.specs.Shared.{lent-of}
 use Rattle.homes.specs.Homes.{formed}
-use Rattle.extract.proofs.Extracts.{not-formed, not-granted, granted}
+use Rattle.extract.proofs.Extracts.{extract-not-formed, extract-not-granted, extract-granted}
 use Rattle.extract.proofs.extract.Statement.{statement}
 use Rattle.extract.proofs.extract.Tie as tie
 
@@ -54,7 +54,7 @@ returns : tie.Need-returns
 returns c =
     let s = start (c .before) in
     let a = s .args in
-    not-formed (lent-here s) (a .register .now) (asked-for s) (a .homes .now) (a .surveys .now) (a .out .now)
+    extract-not-formed (lent-here s) (a .register .now) (asked-for s) (a .homes .now) (a .surveys .now) (a .out .now)
     (sym (c .before .well-formed .ensures) ∙ not-true _ (c .if1 .taken))
 
 request-requires : tie.Need-request-requires
@@ -77,7 +77,7 @@ returns-2 c =
     let r = asked (c .before .before) in
     let s = start (tested r) in
     let a = s .args in
-    not-granted (lent-here s) (a .register .now) (asked-for s) (a .homes .now) (a .surveys .now) (a .out .now)
+    extract-not-granted (lent-here s) (a .register .now) (asked-for s) (a .homes .now) (a .surveys .now) (a .out .now)
     (in-form r) _ (r .request .result) (r .request .ensures) _ _ (c .enum-told2 .given .1)
 
 join-requires : tie.Need-join-requires
@@ -99,7 +99,7 @@ returns-3 c =
     let r = asked (matched g) in
     let s = start (tested r) in
     let a = s .args in
-    granted (lent-here s) (a .register .now) (asked-for s) (a .homes .now) (a .surveys .now) (a .out .now)
+    extract-granted (lent-here s) (a .register .now) (asked-for s) (a .homes .now) (a .surveys .now) (a .out .now)
     (in-form r) _ (r .request .result) (r .request .ensures) _ (g .before .enum-told .given .1) (j .join .ensures)
 
 pub extract-spec : {M : Type 1} → statement M

@@ -4,7 +4,7 @@ use Rattle.logic.specs.Result.{Result}
 use Rattle.register.specs.Records.{Ask, ask-of}
 use Rattle.register.specs.Calls.{Lent, request-call}
 use Rattle.shared_tests.specs.Shared.{lent-of}
-use Rattle.host.proofs.Codes.{granted-code, not-granted, refused-code, request-fits}
+use Rattle.host.proofs.Codes.{granted-code, not-granted-is, refused-code, request-fits}
 use native.Mathlib.Omega.{arith}
 use borrow.Author.Needs.{needs}
 use Rattle.host.proofs.aura0_request.Statement.{statement}
@@ -48,7 +48,7 @@ code-requires c κs =
     let a = s .args in
     let v = at-request .request in
     request-fits (lent-here s) (a .register .now) (asked s) _ _ (omega (arith, s .good))
-    (not-granted (called s) (v .result) (v .ensures .answer) _ _ (c .before .verdict .given .1))
+    (not-granted-is (called s) (v .result) (v .ensures .answer) _ _ (c .before .verdict .given .1))
 
 same-length : tie.Need-same-length
 same-length c = search needs
@@ -76,7 +76,7 @@ returns-2 c =
     let v = at-request .request in
     record {
       answer = refused-code (called s) _ _ (c .code .result)
-          (not-granted (called s) (v .result) (v .ensures .answer) _ _ (c .before .before .verdict .given .1)) (c .code .ensures);
+          (not-granted-is (called s) (v .result) (v .ensures .answer) _ _ (c .before .before .verdict .given .1)) (c .code .ensures);
       register = v .ensures .register;
     }
 

@@ -6,7 +6,7 @@ use Rattle.register.specs.Records.{Ask, ask-of}
 use Rattle.register.specs.Calls.{Lent, request-own}
 use Rattle.shared_tests.specs.Shared.{lent-of}
 use Rattle.shared_tests.proofs.OwnTests.{Passed-so, passed-so, table-within}
-use Rattle.request.proofs.Grants.{request-not-prepared, bad-numbers, in-range-numbers, not-typed, type-here, term-here, words-inside, proved}
+use Rattle.request.proofs.Grants.{request-not-prepared, bad-numbers, in-range-numbers, request-not-typed, request-type, request-term, words-inside, proved}
 use native.Mathlib.Omega.{arith}
 use borrow.Author.Needs.{needs}
 use Rattle.request.proofs.grantable.Statement.{statement}
@@ -142,7 +142,7 @@ proves-requires c κs =
     let S = passed at-ready2 in
     let N = in-range-numbers (lent-here at-start) (a .register .now) (at-prepare .prepare .last .1 .1 .1 .0) (asked at-start) (at-prepare .prepare .result) (at-prepare .prepare .ensures) (at-ready2 .ready2 .given .0 .0) (passed at-ready2)
     (at-numbers .numbers .result) (at-numbers .numbers .ensures (a .proof .now)) (not-false _ (at-else1 .if1 .left)) in
-    let T = term-here (lent-here at-start) (a .register .now) (at-prepare .prepare .last .1 .1 .1 .0) (asked at-start) (at-prepare .prepare .result) (at-prepare .prepare .ensures) (at-ready2 .ready2 .given .0 .0) (passed at-ready2)
+    let T = request-term (lent-here at-start) (a .register .now) (at-prepare .prepare .last .1 .1 .1 .0) (asked at-start) (at-prepare .prepare .result) (at-prepare .prepare .ensures) (at-ready2 .ready2 .given .0 .0) (passed at-ready2)
     (at-numbers .numbers .result) (at-numbers .numbers .ensures (a .proof .now)) (not-false _ (at-else1 .if1 .left))
     (at-check-term .check-term .last .1 .1 .1 .1 .1 .0) (at-check-term .check-term .result) _ _
     (at-check-term .check-term .ensures (S .Σ) (S .constants)) (c .before .before .typed2 .given .1) in
@@ -183,7 +183,7 @@ returns-3 c =
     let at-start = before-table (before-prepare at-prepare) in
     let a = at-start .args in
     let S = passed at-ready2 in
-    not-typed (lent-here at-start) (a .register .now) (at-prepare .prepare .last .1 .1 .1 .0) (asked at-start) (at-prepare .prepare .result) (at-prepare .prepare .ensures) (at-ready2 .ready2 .given .0 .0) (passed at-ready2)
+    request-not-typed (lent-here at-start) (a .register .now) (at-prepare .prepare .last .1 .1 .1 .0) (asked at-start) (at-prepare .prepare .result) (at-prepare .prepare .ensures) (at-ready2 .ready2 .given .0 .0) (passed at-ready2)
     (at-numbers .numbers .result) (at-numbers .numbers .ensures (a .proof .now)) (not-false _ (at-else1 .if1 .left)) _ (at-check-term .check-term .result) _ _
     (at-check-term .check-term .ensures (S .Σ) (S .constants)) (c .before .typed .given .1)
 
@@ -200,11 +200,11 @@ returns-4 c =
     let at-start = before-table (before-prepare at-prepare) in
     let a = at-start .args in
     let S = passed at-ready2 in
-    let A = type-here (lent-here at-start) (a .register .now) (at-prepare .prepare .last .1 .1 .1 .0) (asked at-start) (at-prepare .prepare .result) (at-prepare .prepare .ensures) (at-ready2 .ready2 .given .0 .0) (passed at-ready2)
+    let A = request-type (lent-here at-start) (a .register .now) (at-prepare .prepare .last .1 .1 .1 .0) (asked at-start) (at-prepare .prepare .result) (at-prepare .prepare .ensures) (at-ready2 .ready2 .given .0 .0) (passed at-ready2)
     (at-numbers .numbers .result) (at-numbers .numbers .ensures (a .proof .now)) (not-false _ (at-else1 .if1 .left))
     (at-check-term .check-term .last .1 .1 .1 .1 .1 .0) (at-check-term .check-term .result) _ _
     (at-check-term .check-term .ensures (S .Σ) (S .constants)) (c .before .before .before .typed2 .given .1) in
-    let T = term-here (lent-here at-start) (a .register .now) (at-prepare .prepare .last .1 .1 .1 .0) (asked at-start) (at-prepare .prepare .result) (at-prepare .prepare .ensures) (at-ready2 .ready2 .given .0 .0) (passed at-ready2)
+    let T = request-term (lent-here at-start) (a .register .now) (at-prepare .prepare .last .1 .1 .1 .0) (asked at-start) (at-prepare .prepare .result) (at-prepare .prepare .ensures) (at-ready2 .ready2 .given .0 .0) (passed at-ready2)
     (at-numbers .numbers .result) (at-numbers .numbers .ensures (a .proof .now)) (not-false _ (at-else1 .if1 .left))
     (at-check-term .check-term .last .1 .1 .1 .1 .1 .0) (at-check-term .check-term .result) _ _
     (at-check-term .check-term .ensures (S .Σ) (S .constants)) (c .before .before .before .typed2 .given .1) in

@@ -9,7 +9,7 @@ use Rattle.register.specs.Records.{Ask, ask-of, used}
 use Rattle.records.specs.declared.view.View.{View}
 use Rattle.records.proofs.Items.{records-there}
 use Rattle.records.proofs.Sought.{holds-view, header-there}
-use Rattle.request.proofs.Grants.{another, unheld, full, enough}
+use Rattle.request.proofs.Grants.{request-another, request-unheld, request-full, request-enough}
 use Rattle.request.proofs.proves.Statement.{statement}
 use Rattle.request.proofs.proves.Tie as tie
 
@@ -56,7 +56,7 @@ returns c =
     let p = c .before in
     let s = start p in
     λ l Σ rs delivery t A g i T e.
-    another l Σ rs (s .args .register .now) (asked s delivery) t A (p .permits .result) (p .permits .ensures A delivery (s .args .proof .now) T e) (not-true _ (c .if1 .taken))
+    request-another l Σ rs (s .args .register .now) (asked s delivery) t A (p .permits .result) (p .permits .ensures A delivery (s .args .proof .now) T e) (not-true _ (c .if1 .taken))
 
 view-of-requires : tie.Need-view-of-requires
 view-of-requires c κs = let s = start (c .before) in header-there (s .args .register .now) (s .pre .reads)
@@ -80,7 +80,7 @@ returns-2 c =
     let s = start p in
     λ l Σ rs delivery t A g i T e.
     let k = holds-view (s .args .register .now) (v .view-of .ensures) g in
-    unheld l Σ rs (s .args .register .now) (asked s delivery) t A (p .permits .result) (p .permits .ensures A delivery (s .args .proof .now) T e)
+    request-unheld l Σ rs (s .args .register .now) (asked s delivery) t A (p .permits .result) (p .permits .ensures A delivery (s .args .proof .now) T e)
     (not-false _ (v .before .if1 .left)) (f .first-unheld .result) (f .first-unheld .ensures rs t k i) _ (c .before .unheld .given .1)
 
 enum-told : tie.Need-enum-told
@@ -102,7 +102,7 @@ returns-3 c =
     let w = seen v in
     λ l Σ rs delivery t A g i T e.
     let k = holds-view (s .args .register .now) (v .view-of .ensures) g in
-    full l Σ rs (s .args .register .now) (asked s delivery) t A (p .permits .result) (p .permits .ensures A delivery (s .args .proof .now) T e)
+    request-full l Σ rs (s .args .register .now) (asked s delivery) t A (p .permits .result) (p .permits .ensures A delivery (s .args .proof .now) T e)
     (not-false _ (v .before .if1 .left)) (f .first-unheld .result) (f .first-unheld .ensures rs t k i) (n .enum-told .given .1)
     (omega (arith, c .if2 .taken, w .size, w .used-words))
 
@@ -116,7 +116,7 @@ returns-4 c =
     let w = seen v in
     λ l Σ rs delivery t A g i T e.
     let k = holds-view (s .args .register .now) (v .view-of .ensures) g in
-    enough l Σ rs (s .args .register .now) (asked s delivery) t A (p .permits .result) (p .permits .ensures A delivery (s .args .proof .now) T e)
+    request-enough l Σ rs (s .args .register .now) (asked s delivery) t A (p .permits .result) (p .permits .ensures A delivery (s .args .proof .now) T e)
     (not-false _ (v .before .if1 .left)) (f .first-unheld .result) (f .first-unheld .ensures rs t k i) (n .enum-told .given .1) (w .within)
     (omega (arith, c .if2 .left, w .size, w .used-words))
 

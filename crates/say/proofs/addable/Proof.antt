@@ -8,7 +8,7 @@ use Rattle.register.specs.Records.{Statement, statement-of, used}
 use Rattle.records.specs.declared.view.View.{View}
 use Rattle.records.proofs.Items.{records-there}
 use Rattle.records.proofs.Sought.{holds-view, header-there}
-use Rattle.say.proofs.Statements.{unheld, repeated, full, enough}
+use Rattle.say.proofs.Statements.{say-unheld, say-repeated, say-full, say-enough}
 use Rattle.say.proofs.addable.Statement.{statement}
 use Rattle.say.proofs.addable.Tie as tie
 
@@ -67,7 +67,7 @@ returns c =
     let v = viewed f in
     let s = start v in
     λ l Σ rs q g i.
-    unheld l Σ rs (s .args .register .now) (said s) q (f .first-unheld .result)
+    say-unheld l Σ rs (s .args .register .now) (said s) q (f .first-unheld .result)
     (f .first-unheld .ensures rs q (holds-view (s .args .register .now) (v .view-of .ensures) g) i) _ (c .before .unheld .given .1)
 
 enum-told : tie.Need-enum-told
@@ -87,7 +87,7 @@ returns-2 c =
     let s = start v in
     λ l Σ rs q g i.
     let k = holds-view (s .args .register .now) (v .view-of .ensures) g in
-    repeated l Σ rs (s .args .register .now) (said s) q (f .first-unheld .result) (f .first-unheld .ensures rs q k i)
+    say-repeated l Σ rs (s .args .register .now) (said s) q (f .first-unheld .result) (f .first-unheld .ensures rs q k i)
     (h .before .enum-told .given .1) (h .is-held .result) (h .is-held .ensures rs k) (c .if1 .taken)
 
 sub-if2 : tie.Need-sub-if2
@@ -106,7 +106,7 @@ returns-3 c =
     let e = seen v in
     λ l Σ rs q g i.
     let k = holds-view (s .args .register .now) (v .view-of .ensures) g in
-    full l Σ rs (s .args .register .now) (said s) q (f .first-unheld .result) (f .first-unheld .ensures rs q k i) (h .before .enum-told .given .1)
+    say-full l Σ rs (s .args .register .now) (said s) q (f .first-unheld .result) (f .first-unheld .ensures rs q k i) (h .before .enum-told .given .1)
     (h .is-held .result) (h .is-held .ensures rs k) (n .if1 .left) (omega (arith, c .if2 .taken, e .size, e .used-words))
 
 returns-4 : tie.Need-returns-4
@@ -119,7 +119,7 @@ returns-4 c =
     let e = seen v in
     λ l Σ rs q g i.
     let k = holds-view (s .args .register .now) (v .view-of .ensures) g in
-    enough l Σ rs (s .args .register .now) (said s) q (f .first-unheld .result) (f .first-unheld .ensures rs q k i) (h .before .enum-told .given .1)
+    say-enough l Σ rs (s .args .register .now) (said s) q (f .first-unheld .result) (f .first-unheld .ensures rs q k i) (h .before .enum-told .given .1)
     (h .is-held .result) (h .is-held .ensures rs k) (n .if1 .left) (e .within) (omega (arith, c .if2 .left, e .size, e .used-words))
 
 pub addable-spec : {M : Type 1} → statement M

@@ -5,7 +5,7 @@ use Rattle.register.specs.Records.{Statement, statement-of}
 use Rattle.register.specs.Calls.{Lent, say-own}
 use Rattle.shared_tests.specs.Shared.{lent-of}
 use Rattle.shared_tests.proofs.OwnTests.{Passed-so, passed-so, table-within}
-use Rattle.say.proofs.Statements.{statement-so, say-not-prepared, principal-over, by-desk, not-stated, stated}
+use Rattle.say.proofs.Statements.{statement-so, say-not-prepared, principal-over, say-by-desk, say-not-stated, say-stated}
 use native.Mathlib.Omega.{arith}
 use borrow.Author.Needs.{needs}
 use Rattle.say.proofs.sayable.Statement.{statement}
@@ -90,7 +90,7 @@ returns-2 c =
     let at-prepare = before-ready2 at-ready2 in
     let at-start = before-table (before-prepare at-prepare) in
     let a = at-start .args in
-    by-desk (lent-here at-start) (a .register .now) (at-prepare .prepare .last .1 .1 .1 .0) (said at-start)
+    say-by-desk (lent-here at-start) (a .register .now) (at-prepare .prepare .last .1 .1 .1 .0) (said at-start)
     (at-prepare .prepare .result) (at-prepare .prepare .ensures) (at-ready2 .ready2 .given .0 .0) (passed at-ready2) (at-else1 .if1 .left)
     (c .if2 .taken)
 
@@ -166,7 +166,7 @@ returns-4 c =
     let at-start = before-table (before-prepare at-prepare) in
     let a = at-start .args in
     let S = passed at-ready2 in
-    not-stated (lent-here at-start) (a .register .now) (at-prepare .prepare .last .1 .1 .1 .0) (said at-start)
+    say-not-stated (lent-here at-start) (a .register .now) (at-prepare .prepare .last .1 .1 .1 .0) (said at-start)
     (at-prepare .prepare .result) (at-prepare .prepare .ensures) (at-ready2 .ready2 .given .0 .0) (passed at-ready2) (at-else1 .if1 .left)
     (at-else2 .if2 .left) (at-check-statement .check-statement .result)
     (at-check-statement .check-statement .ensures (S .Σ) (a .principal) (S .constants)) _ _ (c .before .stated .given .1)
@@ -186,7 +186,7 @@ returns-5 c =
     let S = passed at-ready2 in
     let T = statement-so (S .Σ) (S .constants .signature) (said at-start) (at-check-statement .check-statement .result)
     (at-check-statement .check-statement .ensures (S .Σ) (a .principal) (S .constants)) (c .before .enum-told .given .1) in
-    stated (lent-here at-start) (a .register .now) (at-prepare .prepare .last .1 .1 .1 .0) (said at-start)
+    say-stated (lent-here at-start) (a .register .now) (at-prepare .prepare .last .1 .1 .1 .0) (said at-start)
     (at-prepare .prepare .result) (at-prepare .prepare .ensures) (at-ready2 .ready2 .given .0 .0) (passed at-ready2) (at-else1 .if1 .left)
     (at-else2 .if2 .left) (at-check-statement .check-statement .result)
     (at-check-statement .check-statement .ensures (S .Σ) (a .principal) (S .constants)) T (c .addable .result)
