@@ -45,12 +45,16 @@ module _ (l : Lent) (reg table term : List ℕ) (r : Ready) (P : Prepared-as l r
   check-not-prepared new m p q = judged-refused _ _ new m p (not-prepared l reg table r (check-own term) P m p q)
 
   module _ (count : ℕ) (so : Passed-so l reg table r (check-own term) P count) where
-    pub check-not-typed : (new : List ℕ) (d : Derivation) (m p : ℕ) → Judged (typed-term (so .Σ) most-words most-nesting term) (length term) new d → d ≡ Refused m p → Judged (check-call l reg term) (length term) new d
+    pub check-not-typed : (new : List ℕ) (d : Derivation) (m p : ℕ) →
+        Judged (typed-term (so .Σ) most-words most-nesting term) (length term) new d → d ≡ Refused m p →
+        Judged (check-call l reg term) (length term) new d
     check-not-typed new d m p J e =
         let h = typed-refused (so .Σ) term m p (type-refused _ _ new d m p J e) in
-        subst (Judged (check-call l reg term) (length term) new) (sym e) (judged-refused _ _ new m p (so .is ∙ ap (λ x. x >>= λ c. signs-held (held (so .rs)) (c .term) >> ok (c .type)) h))
+        subst (Judged (check-call l reg term) (length term) new) (sym e)
+        (judged-refused _ _ new m p (so .is ∙ ap (λ x. x >>= λ c. signs-held (held (so .rs)) (c .term) >> ok (c .type)) h))
 
-    module _ (new : List ℕ) (d : Derivation) (words e : ℕ) (J : Judged (typed-term (so .Σ) most-words most-nesting term) (length term) new d) (f : d ≡ Typed words e) where
+    module _ (new : List ℕ) (d : Derivation) (words e : ℕ)
+        (J : Judged (typed-term (so .Σ) most-words most-nesting term) (length term) new d) (f : d ≡ Typed words e) where
       pub check-type : Type-found (typed-term (so .Σ) most-words most-nesting term) new words
       check-type = type-found _ _ new d words e J f
 
@@ -60,12 +64,15 @@ module _ (l : Lent) (reg table term : List ℕ) (r : Ready) (P : Prepared-as l r
       check-is : check-call l reg term ≡ (signs-held (held (so .rs)) (check-term-found .term) >> ok (check-type .type))
       check-is = so .is ∙ ap (λ x. x >>= λ c. signs-held (held (so .rs)) (c .term) >> ok (c .type)) (check-term-found .is)
 
-      pub check-unheld : (u : Unheld) (p : ℕ) → unheld-answer u ≡ signs-held (held (so .rs)) (check-term-found .term) → u ≡ At p → Judged (check-call l reg term) (length term) new (Refused not-held p)
+      pub check-unheld : (u : Unheld) (p : ℕ) → unheld-answer u ≡ signs-held (held (so .rs)) (check-term-found .term) → u ≡ At p →
+          Judged (check-call l reg term) (length term) new (Refused not-held p)
       check-unheld u p g h = judged-refused _ _ new not-held p (check-is ∙ ap (λ x. x >> ok (check-type .type)) (sym g ∙ ap unheld-answer h))
 
-      pub check-held : (u : Unheld) → unheld-answer u ≡ signs-held (held (so .rs)) (check-term-found .term) → u ≡ Nowhere → Judged (check-call l reg term) (length term) new d
+      pub check-held : (u : Unheld) → unheld-answer u ≡ signs-held (held (so .rs)) (check-term-found .term) → u ≡ Nowhere →
+          Judged (check-call l reg term) (length term) new d
       check-held u g h =
-          let i : typed-term (so .Σ) most-words most-nesting term ≡ check-call l reg term = check-type .is ∙ sym (check-is ∙ ap (λ x. x >> ok (check-type .type)) (sym g ∙ ap unheld-answer h)) in
+          let i : typed-term (so .Σ) most-words most-nesting term ≡ check-call l reg term = check-type .is ∙ sym
+          (check-is ∙ ap (λ x. x >> ok (check-type .type)) (sym g ∙ ap unheld-answer h)) in
           subst (λ (x : Result Term). Judged x (length term) new d) i J
 
 -- ---- what is handed back
@@ -74,8 +81,10 @@ module _ (o : Result Term) (end : ℕ) (new : List ℕ) (r : Derivation) (J : Ju
   pub handed-type : (words e : ℕ) → r ≡ Typed words e → Handed-as o (take words new) 0 0
   handed-type words e q =
       let T = type-found o end new r words e J q in
-      let w : take words new ≡ encode (T .type) = ap₂ (λ (i : ℕ) (x : List ℕ). take i x) (T .words-are) (T .front .words) ∙ take-at (encode (T .type)) (T .front .rest) (size (T .type)) (encode-size (T .type)) in
+      let w : take words new ≡ encode (T .type) = ap₂ (λ (i : ℕ) (x : List ℕ). take i x) (T .words-are) (T .front .words) ∙ take-at
+      (encode (T .type)) (T .front .rest) (size (T .type)) (encode-size (T .type)) in
       subst (λ (x : Result Term). Handed-as x (take words new) 0 0) (sym (T .is)) (record { part-is = w; number-is = refl; place-is = refl })
 
   pub handed-nothing : (m p : ℕ) → r ≡ Refused m p → Handed-as o (take 0 new) m p
-  handed-nothing m p q = subst (λ (x : Result Term). Handed-as x (take 0 new) m p) (sym (type-refused o end new r m p J q)) (record { part-is = refl; number-is = refl; place-is = refl })
+  handed-nothing m p q = subst (λ (x : Result Term). Handed-as x (take 0 new) m p) (sym (type-refused o end new r m p J q))
+      (record { part-is = refl; number-is = refl; place-is = refl })

@@ -85,7 +85,11 @@ module _ (l : Lent) (reg : List ℕ) (k : Ask) (hs t : List ℕ) (room : ℕ) wh
   not-21 (refused m place) e n = request-bound l reg k e .0 .2 n
 
   form-first : (number-of call ≡ out-of-form) ↔ (InForm hs t room → ⊥)
-  form-first = (λ n f. not-21 asked refl (sym (ap number-of (right-form l reg k hs t room (formed-of f))) ∙ n), λ n. ap number-of (broken-form l reg k hs t room (broken-of n)))
+  form-first = (
+    λ n f. not-21 asked refl (sym (ap number-of (right-form l reg k hs t room (formed-of f))) ∙ n),
+    λ n.
+        ap number-of (broken-form l reg k hs t room (broken-of n)),
+  )
 
   then-request : InForm hs t room → without-value call ≡ asked
   then-request f = request-answer l reg k hs t room (formed-of f)

@@ -16,7 +16,8 @@ use Rattle.extract.specs.Desk.{desk-run, desk-answers}
 use Rattle.extract.specs.Guards.{ExtractGuards}
 
 pub extract-guards : ExtractGuards
-unfolding infer same-term conclusion read too-deep first-unheld shift fillAt occurs size encode ℕ-discrete constants operations records words-of held same-words opening run listed rising rows formed survey-code joined extract-call desk-run desk-answers
+unfolding infer same-term conclusion read too-deep first-unheld shift fillAt occurs size encode ℕ-discrete constants operations records
+    words-of held same-words opening run listed rising rows formed survey-code joined extract-call desk-run desk-answers
 extract-guards = record {
   granted = refl;
   written = refl;

@@ -3,7 +3,8 @@
 use Prim.Native.Nat.{ℕ}
 use mathlib.Core.Path.{_≡_, refl, sym, ap, ap₂, _∙_}
 use mathlib.Core.Bool.{Bool, true, false}
-use mathlib.Core.List.{List, [], _∷_, _++_, List·Permᴰ, List·Permᴰ·nil, List·Permᴰ·cons, List·Permᴰ·swap, List·Permᴰ·trans, Permᴰ·refl, Permᴰ·symm, Permᴰ·append-left, Permᴰ·middle}
+use mathlib.Core.List.{List, [], _∷_, _++_, List·Permᴰ, List·Permᴰ·nil, List·Permᴰ·cons, List·Permᴰ·swap}
+use mathlib.Core.List.{List·Permᴰ·trans, Permᴰ·refl, Permᴰ·symm, Permᴰ·append-left, Permᴰ·middle}
 use Rattle.logic.specs.Refusals.{out-of-form}
 use Rattle.logic.specs.Result.{Result, refused, pick}
 use Rattle.typing.specs.Check.{without-value}
@@ -13,7 +14,9 @@ use Rattle.register.specs.History.{Setting, lent, Call, Reply, request, request
 use Rattle.register.proofs.Demand.{demand3}
 use Rattle.homes.specs.Homes.{formed}
 use Rattle.extract.specs.Extract.{extract-call}
-use Rattle.extract.specs.Desk.{DeskCall, plain, extract, desk-reply, desk-after, desk-run, desk-answers, as-request, as-requests, reply-as-request, answers-as-requests, NoDeskRefusal, DeskDemand3}
+use Rattle.extract.specs.Desk.{DeskCall, plain, extract, desk-reply, desk-after, desk-run, desk-answers}
+use Rattle.extract.specs.Desk.{as-request, as-requests, reply-as-request, answers-as-requests, NoDeskRefusal}
+use Rattle.extract.specs.Desk.{DeskDemand3}
 use Rattle.extract.proofs.Extracts.{broken-form, request-answer}
 
 -- ---- one call
@@ -96,7 +99,8 @@ none-refused : (s : Setting) (reg : List ℕ) (cs : List DeskCall) → NoDeskRef
 unfolding NoDeskRefusal NoRefusal as-requests
 none-refused s reg [] n = tt
 none-refused s reg (c ∷ cs) n =
-    none-append s reg (as-request c) (as-requests cs) (none-first s reg c (n .0)) (rw (sym (call-after s reg c)) (none-refused s (desk-after s reg c) cs (n .1)))
+    none-append s reg (as-request c) (as-requests cs) (none-first s reg c (n .0))
+    (rw (sym (call-after s reg c)) (none-refused s (desk-after s reg c) cs (n .1)))
 
 -- ---- the third demand with extracts
 

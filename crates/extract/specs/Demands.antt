@@ -1,5 +1,5 @@
--- When an extract is granted and when and where it is refused, said by relations and not by the tests: what the first and
--- the second demand say of it.
+-- When an extract is granted and when and where it is refused, said by relations and not by the tests: what the first
+-- and the second demand say of it.
 use Prim.Native.Nat.{ℕ, _*_}
 use mathlib.Core.Path.{_≡_}
 use mathlib.Core.Logic.{_↔_}

@@ -1,4 +1,5 @@
--- Document 02's slip 3 on the extract desk, in quotation marks, by examples that compute on document 01's worked register.
+-- Document 02's slip 3 on the extract desk, in quotation marks, by examples that compute on document 01's worked
+-- register.
 use Prim.Native.Nat.{ℕ}
 use mathlib.Core.Path.{_≡_}
 use mathlib.Core.List.{List, [], _∷_}
@@ -29,8 +30,8 @@ abbrev pub held-by : ℕ → List ℕ
 held-by len = run setting (opened-sample len) (say-consent ∷ [])
 
 pub record ExtractGuards : Type 0 where
-  -- "After a grant it writes every home in the list's order with its survey code, or 4294967295 where no survey exists";
-  -- "output past the last home is unchanged"
+  -- "After a grant it writes every home in the list's order with its survey code, or 4294967295 where no survey
+  -- exists"; "output past the last home is unchanged"
   pub granted : extract-call (lent setting 12288) (held-by 64) asked (1 ∷ 2 ∷ 4294967295 ∷ []) (2 ∷ 50 ∷ []) 7
       ≡ ok (1 ∷ 4294967295 ∷ 2 ∷ 50 ∷ 4294967295 ∷ 4294967295 ∷ [])
   pub written : after-write (extract-call (lent setting 12288) (held-by 64) asked (1 ∷ []) (1 ∷ 50 ∷ []) 3) (7 ∷ 8 ∷ 9 ∷ []) ≡ 1 ∷ 50 ∷ 9 ∷ []

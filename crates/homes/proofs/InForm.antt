@@ -70,7 +70,8 @@ rows-rise least [] e i j l m = absurd (omega arith)
 rows-rise least (h ∷ []) e i j l m = absurd (omega arith)
 rows-rise least (h ∷ c ∷ t) e i zero l m = absurd (omega arith)
 rows-rise least (h ∷ c ∷ t) e zero (suc j) l m = omega (arith, rows-least (h + 1) t j (row-facts least h c t e .rest) (omega arith), next t h c j)
-rows-rise least (h ∷ c ∷ t) e (suc i) (suc j) l m = omega (arith, rows-rise (h + 1) t (row-facts least h c t e .rest) i j (omega arith) (omega arith), next t h c i, next t h c j)
+rows-rise least (h ∷ c ∷ t) e (suc i) (suc j) l m =
+    omega (arith, rows-rise (h + 1) t (row-facts least h c t e .rest) i j (omega arith) (omega arith), next t h c i, next t h c j)
 
 is-table : (t : List ℕ) → rows 0 t ≡ true → Table t
 is-table t e =
@@ -99,6 +100,8 @@ in-form hs t room = (
       let f = formed-facts hs t room e in
       record { homes = f .homes; rise = rises 0 hs (f .rise); rows-most = f .rows-most; table = is-table t (f .table); fits = f .fits },
   λ f.
-      true-both (true-both (true-both (true-both (le-leb (length hs) most-homes (f .homes)) (le-leb (length t) (2 * most-rows) (f .rows-most))) (le-leb (2 * length hs) room (f .fits)))
-      (rising-so 0 hs (λ k l. omega arith) (f .rise))) (rows-so 0 t (f .table .count) (f .table .whole) (λ k l. omega arith) (f .table .rise) (f .table .codes)),
+      true-both (true-both (true-both (true-both (le-leb (length hs) most-homes (f .homes))
+      (le-leb (length t) (2 * most-rows) (f .rows-most))) (le-leb (2 * length hs) room (f .fits)))
+      (rising-so 0 hs (λ k l. omega arith) (f .rise)))
+      (rows-so 0 t (f .table .count) (f .table .whole) (λ k l. omega arith) (f .table .rise) (f .table .codes)),
 )

@@ -63,7 +63,8 @@ module _ (o : Result (Unit {0})) (r : Verdict) (v : verdict-answer r ≡ o) wher
 pub open-fits : (l : Lent) (reg rules : List ℕ) (m p : ℕ) → length (l .sig) + length rules < place-limit → open-call l reg rules ≡ refused m p → Fits m p
 open-fits l reg rules m p h e = let (n, q) = open-bound l reg rules e in omega arith
 
-pub request-fits : (l : Lent) (reg : List ℕ) (k : Ask) (m p : ℕ) → length (l .sig) + length (k .proof) < place-limit → request-call l reg k ≡ refused m p → Fits m p
+pub request-fits : (l : Lent) (reg : List ℕ) (k : Ask) (m p : ℕ) → length (l .sig) + length (k .proof) < place-limit →
+    request-call l reg k ≡ refused m p → Fits m p
 request-fits l reg k m p h e = let (n, q) = request-bound l reg k e in omega arith
 
 -- ---- extract
@@ -93,12 +94,14 @@ module _ (l : Lent) (old : List ℕ) (st : Statement) (new : List ℕ) (r : Said
   pub said-nothing : (m p : ℕ) → r ≡ Not-said m p → (code : ℕ) → code ≡ m * number-unit + p → Said-to l old st new 0 code
   said-nothing m p f code c = let e = unsaid-is m p f in record { answer = refused-code o m p code e c; register = S .register; added-is = sym (ap added-of e) }
 
-pub say-fits : (l : Lent) (reg : List ℕ) (st : Statement) (m p : ℕ) → length (l .sig) + length (st .words) < place-limit → say-call l reg st ≡ refused m p → Fits m p
+pub say-fits : (l : Lent) (reg : List ℕ) (st : Statement) (m p : ℕ) → length (l .sig) + length (st .words) < place-limit →
+    say-call l reg st ≡ refused m p → Fits m p
 say-fits l reg st m p h e = let (n, b) = say-bound l reg st e in omega arith
 
 -- ---- check
 
-pub check-fits : (l : Lent) (reg term : List ℕ) {m p : ℕ} → length (l .sig) + length term < place-limit → m ≡ number-of (check-call l reg term) → p ≡ place-of (check-call l reg term) → Fits m p
+pub check-fits : (l : Lent) (reg term : List ℕ) {m p : ℕ} → length (l .sig) + length term < place-limit → m ≡
+    number-of (check-call l reg term) → p ≡ place-of (check-call l reg term) → Fits m p
 check-fits l reg term h e f = handed-fits (check-call l reg term) (length (l .sig) + length term) (λ m p. check-bound l reg term) h e f
 
 -- a check that leaves the type in the workspace
@@ -106,7 +109,12 @@ module _ (o : Result Term) (end : ℕ) (new : List ℕ) (r : Derivation) (J : Ju
   pub typed-to : (words e : ℕ) → r ≡ Typed words e → Typed-to o new words 0
   typed-to words e q =
       let H = handed-type o end new r J words e q in
-      record { answer = handed-code o (H .number-is) (H .place-is); words-are = sym (length-take-le words new (words-within o end new r J words e q)) ∙ ap length (H .part-is); type = H .part-is }
+      record {
+        answer = handed-code o (H .number-is) (H .place-is);
+        words-are =
+            sym (length-take-le words new (words-within o end new r J words e q)) ∙ ap length (H .part-is);
+        type = H .part-is;
+      }
 
   pub refused-to : (m p : ℕ) → r ≡ Refused m p → (code : ℕ) → code ≡ m * number-unit + p → Typed-to o new 0 code
   refused-to m p q code c =

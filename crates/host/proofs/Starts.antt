@@ -28,7 +28,8 @@ use Rattle.host.specs.Answers.{number-unit, code-of, start-of, Read-to}
 start-from : (reg : List ℕ) (rs : List Record) (at k : ℕ) → RecordsAt reg header rs → RecordsAt reg at (drop k rs) → at ≡ used-by (take k rs)
 start-from reg rs at k f g =
     let w : length (words-of rs) ≡ length (words-of (take k rs)) + length (words-of (drop k rs)) =
-    ap (λ (l : List Record). length (words-of l)) (sym (take-append-drop k rs)) ∙ ap length (words-append (take k rs) (drop k rs)) ∙ length-append (words-of (take k rs)) (words-of (drop k rs)) in
+    ap (λ (l : List Record). length (words-of l)) (sym (take-append-drop k rs)) ∙ ap length (words-append (take k rs) (drop k rs)) ∙
+    length-append (words-of (take k rs)) (words-of (drop k rs)) in
     omega (arith, f .end, g .end)
 
 entry-within : (rs : List Record) (k : ℕ) {r : Record} → known past-last-record 0 (getElem? rs k) ≡ ok r → k < length rs
@@ -62,7 +63,8 @@ module _ (reg : List ℕ) (k m : ℕ) (n : m ≡ number-of (read-call reg k)) wh
   pub number-fits : (m ≡ 0 → ⊥) → m ≤ last-number
   number-fits ne = read-bound reg k (refused-is ne) .0 .1
 
-  pub not-read : (kind : ℕ) (body : List ℕ) (code : ℕ) → (m ≡ 0 → ⊥) → kind ≡ kind-of (read-call reg k) → body ≡ body-of (read-call reg k) → code ≡ m * number-unit + 0 → Read-to reg k kind 0 (length body) code
+  pub not-read : (kind : ℕ) (body : List ℕ) (code : ℕ) → (m ≡ 0 → ⊥) → kind ≡ kind-of (read-call reg k) → body ≡ body-of (read-call reg k) →
+      code ≡ m * number-unit + 0 → Read-to reg k kind 0 (length body) code
   unfolding body-of
   not-read kind body code ne e b c =
       let r = refused-is ne in
@@ -83,13 +85,19 @@ module _ (reg : List ℕ) (k m : ℕ) (n : m ≡ number-of (read-call reg k)) wh
       go (ok r) e f =
           tested (leb header (length reg) && leb (length reg) most-register) _ _ _ e λ range e₁. bound (register-records reg) _ e₁ λ rs u e₂.
           let (low, high) = both-true (leb header (length reg)) (leb (length reg) most-register) range in
-          record { among = record { found = rs; reads = u; present = entry-within rs k e₂ }; not-shorter = leb-true header (length reg) low; not-longer = leb-true (length reg) most-register high }
+          record {
+            among = record { found = rs; reads = u; present = entry-within rs k e₂ };
+            not-shorter =
+                leb-true header (length reg) low;
+            not-longer = leb-true (length reg) most-register high;
+          }
 
 module _ (reg : List ℕ) (k : ℕ) (P : Present reg k) (at : ℕ) (R : Reached reg at k) where
   pub start-fits : at + record-head ≤ length reg
   start-fits = let b = reached-bounds reg at k k (P .among) R (omega arith) in omega (arith, b .fits, b .within)
 
-  pub read-to : (kind : ℕ) (body : List ℕ) → kind ≡ kind-of (read-call reg k) → body ≡ body-of (read-call reg k) → Read-to reg k kind (at + record-head) (length body) 0
+  pub read-to : (kind : ℕ) (body : List ℕ) → kind ≡ kind-of (read-call reg k) → body ≡ body-of (read-call reg k) →
+      Read-to reg k kind (at + record-head) (length body) 0
   unfolding body-of
   read-to kind body e b =
       let A = P .among in

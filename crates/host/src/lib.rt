@@ -1,6 +1,6 @@
-// "A host program in C calls check and request": extern "C" entry points on numbers and lent slices, thin over the proved
-// check and request, and over open, say and read alike. include/aura0.h declares them. An answer is the refusal's number
-// times 4294967296 plus the place, 0 for success.
+// "A host program in C calls check and request": extern "C" entry points on numbers and lent slices, thin over the
+// proved check and request, and over open, say and read alike. include/aura0.h declares them. An answer is the
+// refusal's number times 4294967296 plus the place, 0 for success.
 use check_call::check;
 use check_call::judge;
 use open::open;
@@ -112,8 +112,8 @@ pub extern "C" fn aura0_request(
     }
 }
 
-// Extract: the form of a list of homes, a table of surveys and an output; then the request; and behind its grant every home
-// with its code.
+// Extract: the form of a list of homes, a table of surveys and an output; then the request; and behind its grant
+// every home with its code.
 #[no_mangle]
 pub extern "C" fn aura0_extract(
     signature: &[u32],

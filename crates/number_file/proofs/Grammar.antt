@@ -22,9 +22,11 @@ use Rattle.number_file.specs.NumberFile.{largest, is-digit, digit, ended
 
 -- a first digit, and one more behind a number
 one-digit : (b : ℕ) → zero-digit ≤ b → b ≤ zero-digit + 9 → digits 10 (b - zero-digit) ≡ b ∷ []
-one-digit b l h = let e : zero-digit + (b - zero-digit) ≡ b = omega arith in sym (digits-one 10 (b - zero-digit) (λ z. omega arith) (omega arith)) ∙ ap (λ (x : ℕ). x ∷ []) e
+one-digit b l h = let e : zero-digit + (b - zero-digit) ≡ b = omega arith in
+    sym (digits-one 10 (b - zero-digit) (λ z. omega arith) (omega arith)) ∙ ap (λ (x : ℕ). x ∷ []) e
 
-digit-behind : (n b : ℕ) → zero-digit ≤ b → b ≤ zero-digit + 9 → 1 ≤ n → 10 * n + (b - zero-digit) ≤ largest → digits 10 (10 * n + (b - zero-digit)) ≡ digits 10 n ++ (b ∷ [])
+digit-behind : (n b : ℕ) → zero-digit ≤ b → b ≤ zero-digit + 9 → 1 ≤ n → 10 * n + (b - zero-digit) ≤ largest →
+    digits 10 (10 * n + (b - zero-digit)) ≡ digits 10 n ++ (b ∷ [])
 digit-behind n b l h o m =
     let x : ℕ = 10 * n + (b - zero-digit) in
     let q : (10 * n + (b - zero-digit)) / 10 ≡ n = omega arith in
@@ -71,7 +73,8 @@ cons-ok (ok xs) n ns e = record { rest = xs; is = refl; all = cc }
 cons-ok (refused m p) n ns e = absurd (not-ok e)
 
 -- a number ends
-sound-last : (this other b : ℕ) (f : Option ℕ) (bs ns : List ℕ) → Fits f → b ≡ this → ((xs : List ℕ) → numbers other this none bs ≡ ok xs → Sound other this none bs xs) →
+sound-last : (this other b : ℕ) (f : Option ℕ) (bs ns : List ℕ) → Fits f → b ≡ this →
+    ((xs : List ℕ) → numbers other this none bs ≡ ok xs → Sound other this none bs xs) →
     (known out-of-form 0 f >>= λ n. (numbers other this none bs >>= λ xs. ok (n ∷ xs))) ≡ ok ns → Sound this other f (b ∷ bs) ns
 unfolding fields number Small last-end
 sound-last this other b none bs ns h q ih e = absurd (not-ok e)
@@ -105,7 +108,8 @@ digit-read none b k ns e = go (is-digit b) refl e
     go false q e = absurd (not-ok e)
 digit-read (some n) b k ns e = go (is-digit b && leb 1 n && leb (10 * n + (b - zero-digit)) largest) refl e
   where
-    go : (x : Bool) → (is-digit b && leb 1 n && leb (10 * n + (b - zero-digit)) largest) ≡ x → ((require x out-of-form 0 >> ok (10 * n + (b - zero-digit))) >>= k) ≡ ok ns → Digit-read (some n) b k ns
+    go : (x : Bool) → (is-digit b && leb 1 n && leb (10 * n + (b - zero-digit)) largest) ≡ x →
+        ((require x out-of-form 0 >> ok (10 * n + (b - zero-digit))) >>= k) ≡ ok ns → Digit-read (some n) b k ns
     go true q e =
         let (begun, most) = both-true (is-digit b && leb 1 n) (leb (10 * n + (b - zero-digit)) largest) q in
         let (digit, one) = both-true (is-digit b) (leb 1 n) begun in
@@ -117,7 +121,8 @@ digit-read (some n) b k ns e = go (is-digit b && leb 1 n && leb (10 * n + (b - z
         record { value = 10 * n + (b - zero-digit); goes-on = e; fits = m; text = digit-behind n b l h o m }
     go false q e = absurd (not-ok e)
 
-sound-more : (this other b : ℕ) (f : Option ℕ) (bs ns : List ℕ) → ((n : ℕ) → n ≤ largest → numbers this other (some n) bs ≡ ok ns → Sound this other (some n) bs ns) →
+sound-more : (this other b : ℕ) (f : Option ℕ) (bs ns : List ℕ) →
+    ((n : ℕ) → n ≤ largest → numbers this other (some n) bs ≡ ok ns → Sound this other (some n) bs ns) →
     (digit f b >>= λ n. numbers this other (some n) bs) ≡ ok ns → Sound this other f (b ∷ bs) ns
 sound-more this other b f bs ns ih e =
     let d = digit-read f b (λ n. numbers this other (some n) bs) ns e in
@@ -129,15 +134,18 @@ sound-more this other b f bs ns ih e =
     }
 
 sound-byte : (this other b : ℕ) (f : Option ℕ) (bs ns : List ℕ) (x : Bool) → eqb b this ≡ x → Fits f →
-    ((xs : List ℕ) → numbers other this none bs ≡ ok xs → Sound other this none bs xs) → ((n : ℕ) → n ≤ largest → numbers this other (some n) bs ≡ ok ns → Sound this other (some n) bs ns) →
-    pick x (known out-of-form 0 f >>= λ n. (numbers other this none bs >>= λ xs. ok (n ∷ xs))) (digit f b >>= λ n. numbers this other (some n) bs) ≡ ok ns → Sound this other f (b ∷ bs) ns
+    ((xs : List ℕ) → numbers other this none bs ≡ ok xs → Sound other this none bs xs) →
+    ((n : ℕ) → n ≤ largest → numbers this other (some n) bs ≡ ok ns → Sound this other (some n) bs ns) →
+    pick x (known out-of-form 0 f >>= λ n. (numbers other this none bs >>= λ xs. ok (n ∷ xs)))
+    (digit f b >>= λ n. numbers this other (some n) bs) ≡ ok ns → Sound this other f (b ∷ bs) ns
 sound-byte this other b f bs ns true q h i j e = sound-last this other b f bs ns h (eqb-true b this q) i e
 sound-byte this other b f bs ns false q h i j e = sound-more this other b f bs ns j e
 
 sound : (this other : ℕ) (f : Option ℕ) (bs ns : List ℕ) → Fits f → numbers this other f bs ≡ ok ns → Sound this other f bs ns
 unfolding numbers
 sound this other f [] ns h e = sound-end this other f ns e
-sound this other f (b ∷ bs) ns h e = sound-byte this other b f bs ns (eqb b this) refl h (λ xs. sound other this none bs xs tt) (λ n l. sound this other (some n) bs ns l) e
+sound this other f (b ∷ bs) ns h e = sound-byte this other b f bs ns (eqb b this) refl h (λ xs. sound other this none bs xs tt)
+    (λ n l. sound this other (some n) bs ns l) e
 
 -- ---- what is written so is read
 
@@ -151,22 +159,39 @@ module _ (this other : ℕ) (apart : Apart this) where
   unfolding numbers digit
   push-first n rest h =
       let e : zero-digit + n - zero-digit ≡ n = omega arith in
-      rw (ne-eqb (zero-digit + n) this (apart n h), le-leb zero-digit (zero-digit + n) (omega arith), le-leb (zero-digit + n) (zero-digit + 9) (omega arith)) (ap (λ (x : ℕ). numbers this other (some x) rest) e)
+      rw (
+        ne-eqb (zero-digit + n) this (apart n h),
+        le-leb zero-digit (zero-digit + n) (omega arith),
+        le-leb (zero-digit + n)
+            (zero-digit + 9) (omega arith),
+      ) (ap (λ (x : ℕ). numbers this other (some x) rest) e)
 
-  push-next : (n d : ℕ) (rest : List ℕ) → d < 10 → 1 ≤ n → 10 * n + d ≤ largest → numbers this other (some n) ((zero-digit + d) ∷ rest) ≡ numbers this other (some (10 * n + d)) rest
+  push-next : (n d : ℕ) (rest : List ℕ) → d < 10 → 1 ≤ n → 10 * n + d ≤ largest → numbers this other (some n) ((zero-digit + d) ∷ rest) ≡
+      numbers this other (some (10 * n + d)) rest
   unfolding numbers digit
   push-next n d rest h o m =
       let e : zero-digit + d - zero-digit ≡ d = omega arith in
-      rw (ne-eqb (zero-digit + d) this (apart d h), le-leb zero-digit (zero-digit + d) (omega arith), le-leb (zero-digit + d) (zero-digit + 9) (omega arith), le-leb 1 n o, le-leb (10 * n + (zero-digit + d - zero-digit)) largest (omega arith)) (ap (λ (x : ℕ). numbers this other (some (10 * n + x)) rest) e)
+      rw (
+        ne-eqb (zero-digit + d) this (apart d h),
+        le-leb zero-digit (zero-digit + d) (omega arith),
+        le-leb (zero-digit + d)
+            (zero-digit + 9) (omega arith),
+        le-leb 1 n o,
+        le-leb (10 * n + (zero-digit + d - zero-digit)) largest (omega arith),
+      )
+      (ap (λ (x : ℕ). numbers this other (some (10 * n + x)) rest) e)
 
   push-some : (k n : ℕ) (rest : List ℕ) (b : Bool) → ltb n 10 ≡ b → n ≤ largest →
-      ((r : List ℕ) → 10 ≤ n → numbers this other none (digits k (n / 10) ++ r) ≡ numbers this other (some (n / 10)) r) → numbers this other none (digits (suc k) n ++ rest) ≡ numbers this other (some n) rest
-  push-some k n rest true e m f = let s = ltb-true n 10 e in ap (λ (d : List ℕ). numbers this other none (d ++ rest)) (sym (digits-one (suc k) n (λ z. omega arith) s)) ∙ push-first n rest s
+      ((r : List ℕ) → 10 ≤ n → numbers this other none (digits k (n / 10) ++ r) ≡ numbers this other (some (n / 10)) r) →
+      numbers this other none (digits (suc k) n ++ rest) ≡ numbers this other (some n) rest
+  push-some k n rest true e m f = let s = ltb-true n 10 e in
+      ap (λ (d : List ℕ). numbers this other none (d ++ rest)) (sym (digits-one (suc k) n (λ z. omega arith) s)) ∙ push-first n rest s
   push-some k n rest false e m f =
       let s = ltb-false n 10 e in
       let a : suc k - 1 ≡ k = omega arith in
       let v : 10 * (n / 10) + n % 10 ≡ n = omega arith in
-      ap (λ (d : List ℕ). numbers this other none (d ++ rest)) (sym (digits-more (suc k) n (λ z. omega arith) s) ∙ ap (λ (j : ℕ). digits j (n / 10) ++ ((zero-digit + n % 10) ∷ [])) a)
+      ap (λ (d : List ℕ). numbers this other none (d ++ rest))
+      (sym (digits-more (suc k) n (λ z. omega arith) s) ∙ ap (λ (j : ℕ). digits j (n / 10) ++ ((zero-digit + n % 10) ∷ [])) a)
       ∙ ap (numbers this other none) (append-assoc (digits k (n / 10)) ((zero-digit + n % 10) ∷ []) rest)
       ∙ f ((zero-digit + n % 10) ∷ rest) s
       ∙ push-next (n / 10) (n % 10) rest (omega arith) (omega arith) (omega arith)
@@ -181,12 +206,15 @@ module _ (this other : ℕ) (apart : Apart this) where
   push-number n rest m =
       ap (numbers this other none) (append-assoc (digits 10 n) (this ∷ []) rest)
       ∙ push-all 9 n (this ∷ rest) (omega arith) m
-      ∙ ap (λ (b : Bool). pick b (numbers other this none rest >>= λ ns. ok (n ∷ ns)) (digit (some n) this >>= λ x. numbers this other (some x) rest)) (eq-eqb this this refl)
+      ∙ ap (λ (b : Bool). pick b (numbers other this none rest >>= λ ns. ok (n ∷ ns))
+      (digit (some n) this >>= λ x. numbers this other (some x) rest)) (eq-eqb this this refl)
 
-complete : (this other : ℕ) (ns : List ℕ) → Apart this → Apart other → Small ns → last-end this other ns ≡ feed → numbers this other none (fields this other ns) ≡ ok ns
+complete : (this other : ℕ) (ns : List ℕ) → Apart this → Apart other → Small ns → last-end this other ns ≡ feed →
+    numbers this other none (fields this other ns) ≡ ok ns
 unfolding numbers fields Small last-end
 complete this other [] a b s e = ap (λ (x : Bool). require x out-of-form 0 >> ok []) (eq-eqb other feed e)
-complete this other (n ∷ ns) a b s e = push-number this other a n (fields other this ns) (s .0) ∙ ap (λ (o : Result (List ℕ)). o >>= λ xs. ok (n ∷ xs)) (complete other this ns b a (s .1) e)
+complete this other (n ∷ ns) a b s e = push-number this other a n (fields other this ns) (s .0) ∙ ap
+    (λ (o : Result (List ℕ)). o >>= λ xs. ok (n ∷ xs)) (complete other this ns b a (s .1) e)
 
 -- ---- the whole file
 
@@ -208,7 +236,8 @@ module _ (heading : List ℕ) (this : ℕ) where
   unfolding file
   is-file bs ns e = go (starts-with heading bs) refl e
     where
-      go : (b : Bool) → starts-with heading bs ≡ b → (require b out-of-form 0 >> numbers this feed none (drop (length heading) bs)) ≡ ok ns → IsFile heading this bs ns
+      go : (b : Bool) → starts-with heading bs ≡ b → (require b out-of-form 0 >> numbers this feed none (drop (length heading) bs)) ≡
+          ok ns → IsFile heading this bs ns
       go true q e =
           let s = sound this feed none (drop (length heading) bs) ns tt e in
           record { bytes = starts-split heading bs q ∙ ap (λ (l : List ℕ). heading ++ l) (s .text); small = s .small; whole = s .whole }
@@ -235,4 +264,10 @@ fields-length this other [] = omega arith
 fields-length this other (n ∷ ns) = omega (arith, fields-length other this ns, number-length n this, length-append (number n this) (fields other this ns))
 
 pub file-length : (heading : List ℕ) (this : ℕ) (bs ns : List ℕ) → file heading this bs ≡ ok ns → length bs ≤ length heading + number-bytes * length ns
-file-length heading this bs ns e = omega (arith, ap length (is-file heading this bs ns e .bytes), length-append heading (fields this feed ns), fields-length this feed ns)
+file-length heading this bs ns e = omega (
+  arith,
+  ap length (is-file heading this bs ns e .bytes),
+  length-append heading
+      (fields this feed ns),
+  fields-length this feed ns,
+)

@@ -1,5 +1,5 @@
--- Numbers in a file's lines, in decimal: how they are read, byte by byte, and how they are written. Sentences in quotation
--- marks are document 02's, slip 3.
+-- Numbers in a file's lines, in decimal: how they are read, byte by byte, and how they are written. Sentences in
+-- quotation marks are document 02's, slip 3.
 use Prim.Native.Nat.{ℕ, _+_, _*_, _-_, _≤_}
 use mathlib.Core.Path.{_≡_}
 use mathlib.Core.Bool.{Bool, true, false, _&&_}

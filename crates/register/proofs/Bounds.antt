@@ -1,5 +1,5 @@
--- Every bounded-refusal of a call on the register has one of the numbers that documents 01 and 02 give it, and a place within what
--- was lent.
+-- Every refusal of a call on the register has one of the numbers that documents 01 and 02 give it, and a
+-- place within what was lent.
 use Prim.Native.Nat.{ℕ, zero, suc, _+_, _≤_}
 use mathlib.Core.Path.{_≡_, refl, sym, ap, _∙_}
 use mathlib.Core.Logic.{_≢_}
@@ -10,10 +10,12 @@ use native.Mathlib.Omega.{arith}
 use lib.Dec.{leb, ltb, eqb}
 use lib.ListN.{length, take, drop, getElem?, length-drop, length-append}
 use borrow.Author.Tests.{leb-true}
-use Rattle.logic.specs.Limits.{most-type-words, most-words, most-nesting, most-statement-words, most-statement-nesting, least-workspace, most-register, most-constants, most-constant-words}
+use Rattle.logic.specs.Limits.{most-type-words, most-words, most-nesting, most-statement-words, most-statement-nesting}
+use Rattle.logic.specs.Limits.{least-workspace, most-register, most-constants, most-constant-words}
 use Rattle.logic.specs.Refusals.{bad-signature, malformed, out-of-form, last-number}
 use Rattle.logic.specs.Result.{Result, ok, refused, _>>=_, _>>_, require, known, nowhere, pick}
-use Rattle.logic.specs.Term.{propA, typeA, stringA, prinA, kindPA, kindTA, constA, textA, nameA, saysO, piO, lamO, appO, retO, bindO, Atom, Term, atom, var, sign, node, P, N, Name, Says, Pi, encode, size}
+use Rattle.logic.specs.Term.{propA, typeA, stringA, prinA, kindPA, kindTA, constA, textA, nameA, saysO, piO, lamO, appO}
+use Rattle.logic.specs.Term.{retO, bindO, Atom, Term, atom, var, sign, node, P, N, Name, Says, Pi, encode, size}
 use Rattle.logic.specs.Move.{raise, lower, fill, occurs}
 use Rattle.logic.specs.Reading.{read-whole, Stands, too-deep, first-unheld}
 use Rattle.logic.specs.Infer.{same, measured, domain, body, proposition, parts, infer-atom, infer}
@@ -26,16 +28,19 @@ use Rattle.logic.proofs.Reading.{read-right}
 use Rattle.logic.proofs.Malformed.{read-refused}
 use Rattle.logic.proofs.Searches.{too-deep-first, first-unheld-first}
 use Rattle.logic.proofs.Places.{stands-words}
-use Rattle.register.specs.Records.{Record, Statement, Ask, Next, ended, cut, whole, header, rule-head, used, count, records, recorded, register-records, held, words-of, next-rule}
-use Rattle.register.specs.Calls.{Lent, Outline, View, outline-of, fresh-outline, payload, Holding, length-test, shared, signs-held, fits, check-own, check-call, say-own, say-call, permission, say-entry, entry, ask-test, request-own, request-call}
+use Rattle.register.specs.Records.{Record, Statement, Ask, Next, ended, cut, whole, header, rule-head, used}
+use Rattle.register.specs.Records.{count, records, recorded, register-records, held, words-of, next-rule}
+use Rattle.register.specs.Calls.{Lent, Outline, View, outline-of, fresh-outline, payload, Holding, length-test}
+use Rattle.register.specs.Calls.{shared, signs-held, fits, check-own, check-call, say-own, say-call, permission}
+use Rattle.register.specs.Calls.{say-entry, entry, ask-test, request-own, request-call}
 use Rattle.register.specs.Calls.{at-rule, with-rule, rule-numbers, rule-own, opening, open-own, open-call, read-call}
 use Rattle.register.proofs.Opening.{next-rule-rest}
 
--- a bounded-refusal number of document 01 or 02, of a call on the register: 21 is the extract desk's alone
+-- a refusal number of document 01 or 02, of a call on the register: 21 is the extract desk's alone
 abbrev pub Number : ℕ → Type 0
 Number m = (1 ≤ m) × (m ≤ last-number) × (m ≢ out-of-form)
 
--- where a result is a bounded-refusal, it has such a number and a place up to the bound
+-- where a result is a refusal, it has such a number and a place up to the bound
 pub data Within {X : Type 0} (bound : ℕ) : Result X → Type 0 where
   passed : {x : X} → Within bound (ok x)
   inside : {m p : ℕ} → Number m → p ≤ bound → Within bound (refused m p)
@@ -59,7 +64,8 @@ require-within true m p h k = passed
 require-within false m p h k = inside h k
 
 -- a test, and what comes behind it where it passes
-tested-within : {Y : Type 0} {bound : ℕ} (b : Bool) (m p : ℕ) (s : Result Y) → Number m → p ≤ bound → (b ≡ true → Within bound s) → Within bound (require b m p >> s)
+tested-within : {Y : Type 0} {bound : ℕ} (b : Bool) (m p : ℕ) (s : Result Y) → Number m → p ≤ bound → (b ≡ true → Within bound s) →
+    Within bound (require b m p >> s)
 tested-within true m p s h k f = f refl
 tested-within false m p s h k f = inside h k
 
@@ -90,7 +96,8 @@ wider l (inside {p} a b) = inside {p = p} a (omega arith)
 -- ---- tests 6 to 12
 
 measured-within : {bound : ℕ} (at : ℕ) (A : Term) → at ≤ bound → Within bound (measured at A)
-measured-within at A h = then-within (require (leb (size A) most-type-words) _ at) (ok A) (require-within (leb (size A) most-type-words) _ at (omega arith) h) passed
+measured-within at A h = then-within (require (leb (size A) most-type-words) _ at) (ok A)
+    (require-within (leb (size A) most-type-words) _ at (omega arith) h) passed
 
 atom-within : {bound : ℕ} (Σ : List Term) (at : ℕ) (a : Atom) → at ≤ bound → Within bound (infer-atom Σ at a)
 atom-within Σ at propA h = passed
@@ -108,37 +115,44 @@ module _ (Σ : List Term) {bound : ℕ} where
   infer-within : (t : Term) (Γ : List Term) (at : ℕ) → at + size t ≤ bound → Within bound (infer Σ Γ at t)
   unfolding infer size
   infer-within (atom a) Γ at h = bind-within (infer-atom Σ at a) _ (atom-within Σ at a (omega arith)) λ A _. measured-within at A (omega arith)
-  infer-within (var n) Γ at h = bind-within (known _ at (getElem? Γ n)) _ (known-within _ at (getElem? Γ n) (omega arith) (omega arith)) λ A _. measured-within at (raise (suc n) A) (omega arith)
+  infer-within (var n) Γ at h = bind-within (known _ at (getElem? Γ n)) _ (known-within _ at (getElem? Γ n) (omega arith) (omega arith))
+      λ A _. measured-within at (raise (suc n) A) (omega arith)
   infer-within (sign n q) Γ at h =
       bind-within (infer Σ [] (at + 1) q) _ (infer-within q [] (at + 1) (omega arith)) λ s _. tested-within (same s P) _ at _ (omega arith) (omega arith) λ _.
       measured-within at (Says (Name n) q) (omega arith)
   infer-within (node saysO a q) Γ at h =
       bind-within (infer Σ Γ (at + 1) a) _ (infer-within a Γ (at + 1) (omega arith)) λ s _. tested-within (same s N) _ at _ (omega arith) (omega arith) λ _.
-      bind-within (infer Σ Γ (at + 1 + size a) q) _ (infer-within q Γ (at + 1 + size a) (omega arith)) λ r _. tested-within (same r P) _ at _ (omega arith) (omega arith) λ _.
+      bind-within (infer Σ Γ (at + 1 + size a) q) _ (infer-within q Γ (at + 1 + size a) (omega arith)) λ r _.
+      tested-within (same r P) _ at _ (omega arith) (omega arith) λ _.
       measured-within at P (omega arith)
   infer-within (node piO d b) Γ at h =
       bind-within (infer Σ Γ (at + 1) d) _ (infer-within d Γ (at + 1) (omega arith)) λ s _. tested-within (domain s) _ at _ (omega arith) (omega arith) λ _.
-      bind-within (infer Σ (d ∷ Γ) (at + 1 + size d) b) _ (infer-within b (d ∷ Γ) (at + 1 + size d) (omega arith)) λ r _. tested-within (body r) _ at _ (omega arith) (omega arith) λ _.
+      bind-within (infer Σ (d ∷ Γ) (at + 1 + size d) b) _ (infer-within b (d ∷ Γ) (at + 1 + size d) (omega arith)) λ r _.
+      tested-within (body r) _ at _ (omega arith) (omega arith) λ _.
       measured-within at r (omega arith)
   infer-within (node lamO d b) Γ at h =
       bind-within (infer Σ Γ (at + 1) d) _ (infer-within d Γ (at + 1) (omega arith)) λ s _. tested-within (domain s) _ at _ (omega arith) (omega arith) λ _.
-      bind-within (infer Σ (d ∷ Γ) (at + 1 + size d) b) _ (infer-within b (d ∷ Γ) (at + 1 + size d) (omega arith)) λ B _. tested-within (proposition B) _ at _ (omega arith) (omega arith) λ _.
+      bind-within (infer Σ (d ∷ Γ) (at + 1 + size d) b) _ (infer-within b (d ∷ Γ) (at + 1 + size d) (omega arith)) λ B _.
+      tested-within (proposition B) _ at _ (omega arith) (omega arith) λ _.
       measured-within at (Pi d B) (omega arith)
   infer-within (node appO f x) Γ at h =
       bind-within (infer Σ Γ (at + 1) f) _ (infer-within f Γ (at + 1) (omega arith)) λ F _.
       bind-within (known _ at (parts piO F)) _ (known-within _ at (parts piO F) (omega arith) (omega arith)) λ p _.
-      bind-within (infer Σ Γ (at + 1 + size f) x) _ (infer-within x Γ (at + 1 + size f) (omega arith)) λ E _. tested-within (same E (p .left)) _ at _ (omega arith) (omega arith) λ _.
+      bind-within (infer Σ Γ (at + 1 + size f) x) _ (infer-within x Γ (at + 1 + size f) (omega arith)) λ E _.
+      tested-within (same E (p .left)) _ at _ (omega arith) (omega arith) λ _.
       measured-within at (fill (p .right) x) (omega arith)
   infer-within (node retO a x) Γ at h =
       bind-within (infer Σ Γ (at + 1) a) _ (infer-within a Γ (at + 1) (omega arith)) λ s _. tested-within (same s N) _ at _ (omega arith) (omega arith) λ _.
-      bind-within (infer Σ Γ (at + 1 + size a) x) _ (infer-within x Γ (at + 1 + size a) (omega arith)) λ Q _. tested-within (proposition Q) _ at _ (omega arith) (omega arith) λ _.
+      bind-within (infer Σ Γ (at + 1 + size a) x) _ (infer-within x Γ (at + 1 + size a) (omega arith)) λ Q _.
+      tested-within (proposition Q) _ at _ (omega arith) (omega arith) λ _.
       measured-within at (Says a Q) (omega arith)
   infer-within (node bindO x b) Γ at h =
       bind-within (infer Σ Γ (at + 1) x) _ (infer-within x Γ (at + 1) (omega arith)) λ E _.
       bind-within (known _ at (parts saysO E)) _ (known-within _ at (parts saysO E) (omega arith) (omega arith)) λ p _.
       bind-within (infer Σ (p .right ∷ Γ) (at + 1 + size x) b) _ (infer-within b (p .right ∷ Γ) (at + 1 + size x) (omega arith)) λ B _.
       bind-within (known _ at (parts saysO B)) _ (known-within _ at (parts saysO B) (omega arith) (omega arith)) λ r _.
-      tested-within (same (r .left) (raise 1 (p .left))) _ at _ (omega arith) (omega arith) λ _. tested-within (eqb (occurs 0 (r .right)) 0) _ at _ (omega arith) (omega arith) λ _.
+      tested-within (same (r .left) (raise 1 (p .left))) _ at _ (omega arith) (omega arith) λ _.
+      tested-within (eqb (occurs 0 (r .right)) 0) _ at _ (omega arith) (omega arith) λ _.
       measured-within at (Says (p .left) (lower (r .right))) (omega arith)
 
 -- a term's words
@@ -164,7 +178,9 @@ term-within : (most deep : ℕ) (ws : List ℕ) → Within (length ws) (term-of 
 term-within most deep ws =
     tested-within (leb 1 (length ws) && leb (length ws) most) _ 0 _ (omega arith) (omega arith) λ _.
     bind-within (read-whole ws) _ (read-within ws) λ t e.
-    then-within (nowhere _ (too-deep deep 0 t)) (ok t) (nowhere-within _ (too-deep deep 0 t) (omega arith) λ p f. let F = too-deep-first t deep 0 p .0 f in omega (arith, F .place, stands-within (F .deep), words-size ws e)) passed
+    then-within (nowhere _ (too-deep deep 0 t)) (ok t)
+    (nowhere-within _ (too-deep deep 0 t) (omega arith) λ p f. let F = too-deep-first t deep 0 p .0 f in
+    omega (arith, F .place, stands-within (F .deep), words-size ws e)) passed
 
 -- a term that was read has the words lent
 term-size : (most deep : ℕ) (ws : List ℕ) (t : Term) → term-of most deep ws ≡ ok t → size t ≡ length ws
@@ -197,7 +213,8 @@ statement-size Σ a ws q e =
 
 -- ---- test 14: at a Sign of the term
 signs-within : (h : Holding) (t : Term) → Within (size t) (signs-held h t)
-signs-within h t = nowhere-within _ (first-unheld (λ a q. h a (encode q)) 0 t) (omega arith) λ p e. let F = first-unheld-first (λ a q. h a (encode q)) t 0 p .0 e in omega (arith, F .place, stands-within (F .embedded))
+signs-within h t = nowhere-within _ (first-unheld (λ a q. h a (encode q)) 0 t) (omega arith) λ p e.
+    let F = first-unheld-first (λ a q. h a (encode q)) t 0 p .0 e in omega (arith, F .place, stands-within (F .embedded))
 
 -- ---- test 4: at a constant's length word
 constants-within : {bound : ℕ} (k at : ℕ) (Σ : List Term) (ws : List ℕ) → at + length ws ≤ bound → Within bound (constants k at Σ ws)
@@ -227,7 +244,8 @@ records-within reg =
 
 module _ {Y : Type 0} {words : ℕ} (l : Lent) (o : Outline) where
   -- behind the shared tests, a call's own have places within its own words
-  shared-within : (records : Result (List Record)) (own : View → Result Y) → Within 0 records → ((v : View) → Within words (own v)) → Within (length (l .sig) + words) (shared l o records own)
+  shared-within : (records : Result (List Record)) (own : View → Result Y) → Within 0 records → ((v : View) → Within words (own v)) →
+      Within (length (l .sig) + words) (shared l o records own)
   shared-within records own r f =
       tested-within (leb least-workspace (l .workspace)) _ 0 _ (omega arith) (omega arith) λ _.
       then-within (length-test (o .size)) _ (wider (omega arith) (length-within (o .size))) (
@@ -246,7 +264,8 @@ check-own-within ws v =
 
 say-own-within : (st : Statement) (v : View) → Within (length (st .words)) (say-own st v)
 say-own-within st v =
-    tested-within (payload (st .principal)) _ 0 _ (omega arith) (omega arith) λ _. tested-within (not (eqb (st .principal) 0)) _ 0 _ (omega arith) (omega arith) λ _.
+    tested-within (payload (st .principal)) _ 0 _ (omega arith) (omega arith) λ _.
+    tested-within (not (eqb (st .principal) 0)) _ 0 _ (omega arith) (omega arith) λ _.
     bind-within (check-statement (v .Σ) (st .principal) (st .words)) _ (statement-within (v .Σ) (st .principal) (st .words)) λ q e.
     then-within (signs-held (v .holds) q) _ (wider (omega (arith, statement-size (v .Σ) (st .principal) (st .words) q e)) (signs-within (v .holds) q))
     (pick-within (v .holds (st .principal) (st .words)) _ _ passed (then-within (fits v (say-entry st)) (ok true) (fits-within v (say-entry st)) passed))
@@ -256,24 +275,28 @@ request-own-within k s =
     tested-within (ask-test (s .n) k) _ 0 _ (omega arith) (omega arith) λ _.
     bind-within (check-term (s .Σ) (k .proof)) _ (check-within (s .Σ) (k .proof)) λ c e.
     tested-within (same (c .type) (permission k)) _ 0 _ (omega arith) (omega arith) λ _.
-    then-within (signs-held (s .holds) (c .term)) _ (wider (omega (arith, check-size (s .Σ) (k .proof) c e)) (signs-within (s .holds) (c .term))) (fits-within s (entry k))
+    then-within (signs-held (s .holds) (c .term)) _
+    (wider (omega (arith, check-size (s .Σ) (k .proof) c e)) (signs-within (s .holds) (c .term))) (fits-within s (entry k))
 
 rule-numbers-within : {bound : ℕ} (at : ℕ) (st : Statement) (n : ℕ) → at ≤ bound → Within bound (rule-numbers at st n)
 rule-numbers-within at st n h =
     tested-within (payload (st .principal)) _ at _ (omega arith) h λ _. require-within (leb 1 n && leb n most-statement-words) _ at (omega arith) h
 
--- a bounded-refusal of a rule is at its principal word
+-- a refusal of a rule is at its principal word
 opening-within : {bound : ℕ} (k : ℕ) (Σ : List Term) (at : ℕ) (rs : List Record) (ws : List ℕ) → at + length ws ≤ bound → Within bound (opening k Σ at rs ws)
 unfolding opening
 opening-within zero Σ at rs ws h = inside {m = malformed} {p = at} (omega arith) (omega arith)
 opening-within {bound} (suc k) Σ at rs ws h = go (next-rule ws) refl (λ at rs ws. opening-within k Σ at rs ws)
   where
-    go : (x : Next) → next-rule ws ≡ x → ((at : ℕ) (rs : List Record) (ws : List ℕ) → at + length ws ≤ bound → Within bound (opening k Σ at rs ws)) → Within bound (rule-own (opening k Σ) at Σ rs x)
+    go : (x : Next) → next-rule ws ≡ x → ((at : ℕ) (rs : List Record) (ws : List ℕ) → at + length ws ≤ bound →
+        Within bound (opening k Σ at rs ws)) → Within bound (rule-own (opening k Σ) at Σ rs x)
     go ended e ih = passed
-    go (cut st n) e ih = then-within (rule-numbers at st n) _ (rule-numbers-within at st n (omega arith)) (inside {m = malformed} {p = at} (omega arith) (omega arith))
+    go (cut st n) e ih = then-within (rule-numbers at st n) _ (rule-numbers-within at st n (omega arith))
+        (inside {m = malformed} {p = at} (omega arith) (omega arith))
     go (whole st rest) e ih =
         then-within (rule-numbers at st (length (st .words))) _ (rule-numbers-within at st (length (st .words)) (omega arith)) (
-        bind-within (at-rule at (check-statement Σ (st .principal) (st .words))) _ (at-rule-within at (check-statement Σ (st .principal) (st .words)) (omega arith) (statement-within Σ (st .principal) (st .words))) λ q _.
+        bind-within (at-rule at (check-statement Σ (st .principal) (st .words))) _
+        (at-rule-within at (check-statement Σ (st .principal) (st .words)) (omega arith) (statement-within Σ (st .principal) (st .words))) λ q _.
         then-within (at-rule at (signs-held (held rs) q)) _ (at-rule-within at (signs-held (held rs) q) (omega arith) (signs-within (held rs) q))
         (ih (at + rule-head + length (st .words)) (with-rule rs st) rest (omega (arith, next-rule-rest ws e))))
 
@@ -291,7 +314,8 @@ pub say-bound : (l : Lent) (reg : List ℕ) (st : Statement) {m p : ℕ} → say
 say-bound l reg st e = bounded-refusal (shared-within l (outline-of reg) (register-records reg) (say-own st) (records-within reg) (say-own-within st)) e
 
 pub request-bound : (l : Lent) (reg : List ℕ) (k : Ask) {m p : ℕ} → request-call l reg k ≡ refused m p → Number m × (p ≤ length (l .sig) + length (k .proof))
-request-bound l reg k e = bounded-refusal (shared-within l (outline-of reg) (register-records reg) (request-own k) (records-within reg) (request-own-within k)) e
+request-bound l reg k e = bounded-refusal (shared-within l (outline-of reg) (register-records reg) (request-own k) (records-within reg)
+    (request-own-within k)) e
 
 pub open-bound : (l : Lent) (reg rules : List ℕ) {m p : ℕ} → open-call l reg rules ≡ refused m p → Number m × (p ≤ length (l .sig) + length rules)
 open-bound l reg rules e = bounded-refusal (shared-within l (fresh-outline (length reg)) (ok []) (open-own rules) passed (open-own-within rules)) e

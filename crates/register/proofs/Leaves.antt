@@ -7,7 +7,8 @@ use native.Mathlib.Omega.{arith}
 use lib.ListN.{length, drop, length-append}
 use lib.Seq.{drop-append-add}
 use Rattle.logic.specs.Term.{encode}
-use Rattle.register.specs.Records.{Record, Statement, Ask, header, words-of, used, used-by, Unbroken, Shaped, say-shape, grant-shape, receipt-shape, appended, written}
+use Rattle.register.specs.Records.{Record, Statement, Ask, header, words-of, used, used-by, Unbroken, Shaped}
+use Rattle.register.specs.Records.{say-shape, grant-shape, receipt-shape, appended, written}
 use Rattle.register.specs.Calls.{Lent, say-entry, entry, after-open, after-say, after-request}
 use Rattle.register.specs.Succeeds.{Adds, added-now, Sayable, Grantable}
 use Rattle.register.specs.Leaves.{Leaves, Leaving}

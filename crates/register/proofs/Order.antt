@@ -13,7 +13,8 @@ use Rattle.register.specs.Worked.{listed}
 use Rattle.register.specs.Order.{CallOrder}
 
 pub call-order : CallOrder
-unfolding infer same-term conclusion read too-deep first-unheld shift fillAt occurs size encode ℕ-discrete constants operations records words-of held same-words opening listed within-signs
+unfolding infer same-term conclusion read too-deep first-unheld shift fillAt occurs size encode ℕ-discrete constants operations records
+    words-of held same-words opening listed within-signs
 call-order = record {
   check-1 = refl;
   check-2 = refl;

@@ -49,25 +49,29 @@ module _ (l : Lent) (o : Outline) where
       }
 
   -- and the call's own tests decide
-  pub shared-ok : {Y Z : Type 0} (rs : List Record) (own : View → Result Y) {y : Y} → shared l o (ok rs) own ≡ ok y → ((Σ : List Term) → Ready l (o .size) Σ → own (view l o rs Σ) ≡ ok y → Z) → Z
+  pub shared-ok : {Y Z : Type 0} (rs : List Record) (own : View → Result Y) {y : Y} → shared l o (ok rs) own ≡ ok y →
+      ((Σ : List Term) → Ready l (o .size) Σ → own (view l o rs Σ) ≡ ok y → Z) → Z
   shared-ok rs own e f =
       tested (leb least-workspace (l .workspace)) _ _ _ e λ w e₁. tested (leb header (o .size) && leb (o .size) most-register) _ _ _ e₁ λ range e₂.
       bound (signature (l .sig)) _ e₂ λ Σ a e₃. tested (operations-test Σ (l .n)) _ _ _ e₃ λ p e₄.
       f Σ (made-ready (leb-true least-workspace (l .workspace) w) (inside header most-register (o .size) range) (signature-right (l .sig) Σ .0 a) p) e₄
 
-  pub shared-is : {Y : Type 0} {y : Result Y} {Σ : List Term} (rs : List Record) (own : View → Result Y) → Ready l (o .size) Σ → own (view l o rs Σ) ≡ y → shared l o (ok rs) own ≡ y
+  pub shared-is : {Y : Type 0} {y : Result Y} {Σ : List Term} (rs : List Record) (own : View → Result Y) → Ready l (o .size) Σ →
+      own (view l o rs Σ) ≡ y → shared l o (ok rs) own ≡ y
   shared-is {Σ} rs own r e =
       pass _ _ (le-leb least-workspace (l .workspace) (r .workspace))
       (pass _ _ (true-both (le-leb header (o .size) (r .not-shorter)) (le-leb (o .size) most-register (r .not-longer)))
       (bind-is _ (signature-right (l .sig) Σ .1 (r .accepted))
-      (pass _ _ (true-both (true-both (le-leb 1 (l .n) (r .some-operation)) (le-leb (l .n) most-operations (r .not-more))) (ok-operations Σ (l .n) (λ i h. (r .permits i h, r .receipts i h)))) e)))
+      (pass _ _ (true-both (true-both (le-leb 1 (l .n) (r .some-operation)) (le-leb (l .n) most-operations (r .not-more)))
+      (ok-operations Σ (l .n) (λ i h. (r .permits i h, r .receipts i h)))) e)))
 
   -- test 3 among them
   unbroken-ok : {Y Z : Type 0} (records : Result (List Record)) (own : View → Result Y) {y : Y} → shared l o records own ≡ ok y →
       ((rs : List Record) → records ≡ ok rs → shared l o (ok rs) own ≡ ok y → Z) → Z
   unbroken-ok (ok rs) own e f = f rs refl e
   unbroken-ok (refused m p) own e f =
-      tested (leb least-workspace (l .workspace)) _ _ _ e λ w e₁. tested (leb header (o .size) && leb (o .size) most-register) _ _ _ e₁ λ range e₂. absurd (not-ok e₂)
+      tested (leb least-workspace (l .workspace)) _ _ _ e λ w e₁.
+      tested (leb header (o .size) && leb (o .size) most-register) _ _ _ e₁ λ range e₂. absurd (not-ok e₂)
 
 -- with an accepted signature and an unbroken register, the call's own tests decide
 module _ (l : Lent) (reg : List ℕ) where

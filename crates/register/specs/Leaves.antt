@@ -1,5 +1,5 @@
--- What a call that succeeds leaves in the register, without the definitions that write it. With the first demand, by which
--- a refused call leaves the register as it was: every word that a call leaves.
+-- What a call that succeeds leaves in the register, without the definitions that write it. With the first demand, by
+-- which a refused call leaves the register as it was: every word that a call leaves.
 use Prim.Native.Nat.{ℕ}
 use mathlib.Core.Path.{_≡_}
 use mathlib.Core.Bool.{true, false}

@@ -20,7 +20,7 @@ listed (A ∷ As) = size A ∷ (encode A ++ listed As)
 abbrev pub setting : Setting
 setting = record { sig = listed sample; n = 1 }
 
--- a register of zeros, opened-sample with the rule r
+-- a register of zeros, opened with the rule r
 abbrev pub opened-sample : ℕ → List ℕ
 opened-sample len = after-open (open-call (lent setting 12288) (replicate len 0) (0 ∷ size rule ∷ encode rule)) (replicate len 0)
 

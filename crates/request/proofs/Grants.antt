@@ -51,7 +51,8 @@ module _ (n : ℕ) (k : Ask) where
   not-below h = sym (ap (λ (b : Bool). b && payload (k .extract) && payload (k .delivery)) (le-ltb (k .operation) n h))
 
   pub extract-over : payloads ≤ k .extract → false ≡ ask-test n k
-  extract-over h = sym (ap (λ (b : Bool). below && b && payload (k .delivery)) (le-ltb (k .extract) payloads h) ∙ ap (λ (b : Bool). b && payload (k .delivery)) (and-false below))
+  extract-over h = sym (ap (λ (b : Bool). below && b && payload (k .delivery)) (le-ltb (k .extract) payloads h) ∙ ap
+      (λ (b : Bool). b && payload (k .delivery)) (and-false below))
 
   pub others-in-range : k .operation < n → k .extract < payloads → ltb (k .delivery) payloads ≡ ask-test n k
   others-in-range a b = sym (ap (λ (x : Bool). x && payload (k .delivery)) (true-both (lt-ltb (k .operation) n a) (lt-ltb (k .extract) payloads b)))
@@ -62,7 +63,8 @@ permission-in-range : (k : Ask) → k .operation < most-operations → k .extrac
 unfolding InRange
 permission-in-range k a b = (omega arith, (omega arith, b))
 
-pub permission-found : (ws words : List ℕ) (n : ℕ) (k : Ask) (r : Bool) → k .operation < most-operations → k .extract < payloads → words ≡ encode (permission k) →
+pub permission-found : (ws words : List ℕ) (n : ℕ) (k : Ask) (r : Bool) → k .operation < most-operations → k .extract < payloads → words ≡
+    encode (permission k) →
     (r ≡ true → take n ws ≡ words) × (take n ws ≡ words → r ≡ true) → (A : Term) → TypeAt ws 0 A → n ≡ size A → r ≡ same A (permission k)
 permission-found ws words n k r a b w f A T e =
     let t : take n ws ≡ encode A = ap₂ (λ (k : ℕ) (l : List ℕ). take k l) e (T .words) ∙ take-at (encode A) (T .rest) (size A) (encode-size A) in
@@ -95,10 +97,12 @@ module _ (l : Lent) (Σ : List Term) (rs : List Record) (reg : List ℕ) (k : As
       signs-found = wanted-proved ∙ ap (λ s. s >> require entry-fits register-full 0) (sym e ∙ ap unheld-answer f)
 
       pub request-full : length reg - used reg < length (k .proof) + entry-extra → refused register-full 0 ≡ tests
-      request-full h = sym (signs-found ∙ ap (λ (b : Bool). require b register-full 0) (lt-leb (used reg + length (words-of (entry k))) (length reg) (omega (arith, entry-length k))))
+      request-full h = sym (signs-found ∙ ap (λ (b : Bool). require b register-full 0)
+          (lt-leb (used reg + length (words-of (entry k))) (length reg) (omega (arith, entry-length k))))
 
       pub request-enough : used reg ≤ length reg → length (k .proof) + entry-extra ≤ length reg - used reg → ok tt ≡ tests
-      request-enough w h = sym (signs-found ∙ ap (λ (b : Bool). require b register-full 0) (le-leb (used reg + length (words-of (entry k))) (length reg) (omega (arith, entry-length k))))
+      request-enough w h = sym (signs-found ∙ ap (λ (b : Bool). require b register-full 0)
+          (le-leb (used reg + length (words-of (entry k))) (length reg) (omega (arith, entry-length k))))
 
 -- ---- all tests
 
@@ -127,10 +131,14 @@ module _ (l : Lent) (reg table : List ℕ) (k : Ask) (r : Ready) (P : Prepared-a
           let (d, f) = both-true (ltb (k .operation) (l .n)) (payload (k .extract)) a in
           (ltb-true (k .operation) (l .n) d, ltb-true (k .extract) payloads f, ltb-true (k .delivery) payloads c)
 
-      pub request-not-typed : (new : List ℕ) (d : Derivation) (m place : ℕ) → Judged (typed-term (so .Σ) most-words most-nesting (k .proof)) (length (k .proof)) new d → d ≡ Refused m place → refused m place ≡ request-call l reg k
-      request-not-typed new d m place J f = sym (numbers-right ∙ ap (λ x. x >>= behind) (typed-refused (so .Σ) (k .proof) m place (type-refused _ _ new d m place J f)))
+      pub request-not-typed : (new : List ℕ) (d : Derivation) (m place : ℕ) →
+          Judged (typed-term (so .Σ) most-words most-nesting (k .proof)) (length (k .proof)) new d → d ≡ Refused m place → refused m place ≡
+          request-call l reg k
+      request-not-typed new d m place J f = sym (numbers-right ∙ ap (λ x. x >>= behind)
+          (typed-refused (so .Σ) (k .proof) m place (type-refused _ _ new d m place J f)))
 
-      module _ (new : List ℕ) (d : Derivation) (words end : ℕ) (J : Judged (typed-term (so .Σ) most-words most-nesting (k .proof)) (length (k .proof)) new d) (f : d ≡ Typed words end) where
+      module _ (new : List ℕ) (d : Derivation) (words end : ℕ)
+          (J : Judged (typed-term (so .Σ) most-words most-nesting (k .proof)) (length (k .proof)) new d) (f : d ≡ Typed words end) where
         pub request-type : Type-found (typed-term (so .Σ) most-words most-nesting (k .proof)) new words
         request-type = type-found _ _ new d words end J f
 
@@ -140,7 +148,8 @@ module _ (l : Lent) (reg table : List ℕ) (k : Ask) (r : Ready) (P : Prepared-a
         pub words-inside : words ≤ length new
         words-inside = words-within _ _ new d J words end f
 
-        pub proved : (x : Verdict) → verdict-answer x ≡ behind (record { term = request-term .term; type = request-type .type }) → verdict-answer x ≡ request-call l reg k
+        pub proved : (x : Verdict) → verdict-answer x ≡ behind (record { term = request-term .term; type = request-type .type }) →
+            verdict-answer x ≡ request-call l reg k
         proved x g = g ∙ sym (numbers-right ∙ ap (λ y. y >>= behind) (request-term .is))
 
 -- ---- what a request leaves
@@ -159,7 +168,8 @@ module _ (l : Lent) (reg : List ℕ) (k : Ask) (r : Verdict) (e : verdict-answer
     pub grant-room : Room reg (entry k)
     grant-room =
         let G = grantable-now in
-        room-for reg (entry k) (record { found = G .proof .rs; reads = unbroken-right reg (G .proof .rs) .1 (G .proof .unbroken) }) (G .proof .ready .not-longer) (G .room)
+        room-for reg (entry k) (record { found = G .proof .rs; reads = unbroken-right reg (G .proof .rs) .1 (G .proof .unbroken) })
+        (G .proof .ready .not-longer) (G .room)
 
     pub request-granted : (new : List ℕ) → new ≡ appended reg (entry k) → Requested-as l reg k new Passed
     request-granted new f = record { answer = sym granted; register = f ∙ sym (ap (λ (o : Result (Unit {0})). after-request o reg k) granted) }

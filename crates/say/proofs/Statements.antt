@@ -42,7 +42,8 @@ use Rattle.say.specs.declared.Said.the-variants.{Added, Held, Fault}
 abbrev in-turn : Result (Unit {0}) → Bool → Bool → Result Bool
 in-turn s h b = s >> pick h (ok false) (require b register-full 0 >> ok true)
 
-module _ (l : Lent) (Σ : List Term) (rs : List Record) (reg : List ℕ) (st : Statement) (q : Term) (x : Unheld) (e : unheld-answer x ≡ signs-held (held rs) q) where
+module _ (l : Lent) (Σ : List Term) (rs : List Record) (reg : List ℕ) (st : Statement) (q : Term) (x : Unheld)
+    (e : unheld-answer x ≡ signs-held (held rs) q) where
   abbrev tests : Result Bool
   tests = stated-own st q (view l (outline-of reg) rs Σ)
 
@@ -54,17 +55,20 @@ module _ (l : Lent) (Σ : List Term) (rs : List Record) (reg : List ℕ) (st : S
 
   module _ (f : x ≡ Nowhere) (h : Bool) (g : h ≡ held rs (st .principal) (st .words)) where
     signs-found : (b : Bool) → h ≡ b → tests ≡ pick b (ok false) (require statement-fits register-full 0 >> ok true)
-    signs-found b k = ap (λ s. in-turn s (held rs (st .principal) (st .words)) statement-fits) (sym e ∙ ap unheld-answer f) ∙ ap (λ (y : Bool). pick y (ok false) (require statement-fits register-full 0 >> ok true)) (sym g ∙ k)
+    signs-found b k = ap (λ s. in-turn s (held rs (st .principal) (st .words)) statement-fits) (sym e ∙ ap unheld-answer f) ∙ ap
+        (λ (y : Bool). pick y (ok false) (require statement-fits register-full 0 >> ok true)) (sym g ∙ k)
 
     pub say-repeated : h ≡ true → ok false ≡ tests
     say-repeated k = sym (signs-found true k)
 
     module _ (k : h ≡ false) where
       pub say-full : length reg - used reg < length (st .words) + statement-extra → refused register-full 0 ≡ tests
-      say-full l = sym (signs-found false k ∙ ap (λ (b : Bool). require b register-full 0 >> ok true) (lt-leb (used reg + length (words-of (say-entry st))) (length reg) (omega (arith, statement-length say-kind st))))
+      say-full l = sym (signs-found false k ∙ ap (λ (b : Bool). require b register-full 0 >> ok true)
+          (lt-leb (used reg + length (words-of (say-entry st))) (length reg) (omega (arith, statement-length say-kind st))))
 
       pub say-enough : used reg ≤ length reg → length (st .words) + statement-extra ≤ length reg - used reg → ok true ≡ tests
-      say-enough w l = sym (signs-found false k ∙ ap (λ (b : Bool). require b register-full 0 >> ok true) (le-leb (used reg + length (words-of (say-entry st))) (length reg) (omega (arith, statement-length say-kind st))))
+      say-enough w l = sym (signs-found false k ∙ ap (λ (b : Bool). require b register-full 0 >> ok true)
+          (le-leb (used reg + length (words-of (say-entry st))) (length reg) (omega (arith, statement-length say-kind st))))
 
 -- ---- tests 6 to 12
 
@@ -75,7 +79,8 @@ pub record Statement-so (Σ : List Term) (st : Statement) : Type 0 where
   pub term-is : Is (st .words) term
   pub short : length (st .words) ≤ most-words
 
-pub statement-so : (Σ : List Term) → Signature Σ → (st : Statement) (r : Verdict) → verdict-answer r ≡ without-value (check-statement Σ (st .principal) (st .words)) →
+pub statement-so : (Σ : List Term) → Signature Σ → (st : Statement) (r : Verdict) → verdict-answer r ≡
+    without-value (check-statement Σ (st .principal) (st .words)) →
     r ≡ Passed → Statement-so Σ st
 statement-so Σ sig st r e q =
     let (t, f) = passed-told (check-statement Σ (st .principal) (st .words)) r e q in
@@ -100,16 +105,19 @@ module _ (l : Lent) (reg table : List ℕ) (st : Statement) (r : Ready) (P : Pre
 
     module _ (h : st .principal < payloads) where
       pub say-by-desk : st .principal ≡ 0 → refused desk-says 0 ≡ say-call l reg st
-      say-by-desk e = sym (so .is ∙ ap (λ (b : Bool). numbered b (eqb (st .principal) 0)) (lt-ltb (st .principal) payloads h) ∙ ap (numbered true) (eq-eqb (st .principal) 0 e))
+      say-by-desk e = sym (so .is ∙ ap (λ (b : Bool). numbered b (eqb (st .principal) 0)) (lt-ltb (st .principal) payloads h) ∙ ap
+          (numbered true) (eq-eqb (st .principal) 0 e))
 
       module _ (n : st .principal ≡ 0 → ⊥) (d : Verdict) (e : verdict-answer d ≡ without-value (check-statement (so .Σ) (st .principal) (st .words))) where
         numbers-right : say-call l reg st ≡ behind (check-statement (so .Σ) (st .principal) (st .words))
-        numbers-right = so .is ∙ ap (λ (b : Bool). numbered b (eqb (st .principal) 0)) (lt-ltb (st .principal) payloads h) ∙ ap (numbered true) (ne-eqb (st .principal) 0 n)
+        numbers-right = so .is ∙ ap (λ (b : Bool). numbered b (eqb (st .principal) 0)) (lt-ltb (st .principal) payloads h) ∙ ap
+            (numbered true) (ne-eqb (st .principal) 0 n)
 
         pub say-not-stated : (m place : ℕ) → d ≡ Refusal m place → refused m place ≡ say-call l reg st
         say-not-stated m place q = sym (numbers-right ∙ ap behind (fault-told (check-statement (so .Σ) (st .principal) (st .words)) d m place e q))
 
-        pub say-stated : (S : Statement-so (so .Σ) st) (x : Said) → said-answer x ≡ stated-own st (S .term) (view l (outline-of reg) (so .rs) (so .Σ)) → said-answer x ≡ say-call l reg st
+        pub say-stated : (S : Statement-so (so .Σ) st) (x : Said) → said-answer x ≡
+            stated-own st (S .term) (view l (outline-of reg) (so .rs) (so .Σ)) → said-answer x ≡ say-call l reg st
         say-stated S x g = g ∙ sym (numbers-right ∙ ap behind (S .is))
 
 -- ---- what a say leaves

@@ -45,7 +45,8 @@ then-bind (refused m p) r g = refl
 pub own-tests : {Y : Type 0} (l : Lent) (o : Outline) (records : Result (List Record)) (own : View → Result Y) →
     shared l o records own ≡ (shared l o records ok >>= own)
 own-tests l o records own =
-    sym (then-bind (require (leb least-workspace (l .workspace)) workspace-short 0) _ own ∙ ap (λ x. require (leb least-workspace (l .workspace)) workspace-short 0 >> x)
+    sym (then-bind (require (leb least-workspace (l .workspace)) workspace-short 0) _ own ∙ ap
+    (λ x. require (leb least-workspace (l .workspace)) workspace-short 0 >> x)
     (then-bind (length-test (o .size)) _ own ∙ ap (λ x. length-test (o .size) >> x)
     (bind-bind records _ own ∙ ap (λ k. records >>= k) (fun-ext λ rs.
     bind-bind (signature (l .sig)) _ own ∙ ap (λ k. signature (l .sig) >>= k) (fun-ext λ Σ.
@@ -128,13 +129,15 @@ pub record Type-found (o : Result Term) (new : List ℕ) (words : ℕ) : Type 0 
   pub front : TypeAt new 0 type
 
 pub type-found : (o : Result Term) (end : ℕ) (new : List ℕ) (r : Derivation) (words e : ℕ) → Judged o end new r → r ≡ Typed words e → Type-found o new words
-type-found o end new r words e J q = typed-by o end (J .answer) words e q λ A i w l. record { type = A; is = i; words-are = w; front = subst (λ (x : Result Term). Front x new) i (J .front) }
+type-found o end new r words e J q = typed-by o end (J .answer) words e q λ A i w l.
+    record { type = A; is = i; words-are = w; front = subst (λ (x : Result Term). Front x new) i (J .front) }
 
 pub type-refused : (o : Result Term) (end : ℕ) (new : List ℕ) (r : Derivation) (m p : ℕ) → Judged o end new r → r ≡ Refused m p → o ≡ refused m p
 type-refused o end new r m p J q = refused-by o end (J .answer) m p q
 
 -- the table's part that is lent
-pub table-within : (l : Lent) (table : List ℕ) (count : ℕ) (Σ : List Term) → count ≡ length Σ → Constants-of (l .sig) (take count table) Σ → count ≤ length table
+pub table-within : (l : Lent) (table : List ℕ) (count : ℕ) (Σ : List Term) → count ≡ length Σ → Constants-of (l .sig) (take count table) Σ →
+    count ≤ length table
 table-within l table count Σ e C = omega (arith, length-take count table, C .declared .count)
 
 module _ (o : Result Term) (end : ℕ) (new : List ℕ) (r : Derivation) (J : Judged o end new r) where

@@ -26,7 +26,8 @@ use Rattle.records.specs.declared.walk.Contents.the-variants.{Broken, Whole}
 use Rattle.records.proofs.Walks.{contents-broken, contents-whole}
 use Rattle.register.specs.Records.{Record, header, register-records}
 use Rattle.register.specs.Calls.{Lent, Outline, View, view, length-test, shared, outline-of, fresh-outline}
-use Rattle.shared_tests.specs.Shared.{lengths-test, signed, ready-answer, Signed-as, constants-found, prepared, prepared-to-open, Lent-so, Prepared-as, Opened-as}
+use Rattle.shared_tests.specs.Shared.{lengths-test, signed, ready-answer, Signed-as, constants-found, prepared}
+use Rattle.shared_tests.specs.Shared.{prepared-to-open, Lent-so, Prepared-as, Opened-as}
 use Rattle.shared_tests.specs.declared.Ready.{Ready}
 use Rattle.shared_tests.specs.declared.Ready.the-variants.{Constants, Fault}
 
@@ -41,7 +42,8 @@ module _ (workspace register : ℕ) where
     past-workspace = ap (λ (b : Bool). require b workspace-short 0 >> length-test register) (le-leb least-workspace workspace enough)
 
     pub short-register : register < header → register-length ≡ number-of (lengths-test workspace register)
-    short-register h = sym (ap number-of past-workspace ∙ ap (λ (b : Bool). number-of (require (b && leb register most-register) register-length 0)) (lt-leb header register h))
+    short-register h = sym (ap number-of past-workspace ∙ ap
+        (λ (b : Bool). number-of (require (b && leb register most-register) register-length 0)) (lt-leb header register h))
 
     module _ (not-shorter : header ≤ register) where
       past-least : lengths-test workspace register ≡ require (leb register most-register) register-length 0
@@ -63,7 +65,8 @@ pub record Lengths (workspace register : ℕ) : Type 0 where
 pub lengths-fine : (workspace register : ℕ) → 0 ≡ number-of (lengths-test workspace register) → Lengths workspace register
 lengths-fine w r e = go (leb least-workspace w) (leb header r) (leb r most-register) refl refl refl e
   where
-    go : (a b c : Bool) → leb least-workspace w ≡ a → leb header r ≡ b → leb r most-register ≡ c → 0 ≡ number-of (require a workspace-short 0 >> require (b && c) register-length 0) → Lengths w r
+    go : (a b c : Bool) → leb least-workspace w ≡ a → leb header r ≡ b → leb r most-register ≡ c → 0 ≡
+        number-of (require a workspace-short 0 >> require (b && c) register-length 0) → Lengths w r
     go false b c p q s e = absurd (omega arith)
     go true false c p q s e = absurd (omega arith)
     go true true false p q s e = absurd (omega arith)
@@ -75,10 +78,12 @@ lengths-fine w r e = go (leb least-workspace w) (leb header r) (leb r most-regis
     }
 
 -- what they refuse, they refuse at place 0
-pub lengths-refused : (workspace register number : ℕ) → number ≡ number-of (lengths-test workspace register) → (number ≡ 0 → ⊥) → lengths-test workspace register ≡ refused number 0
+pub lengths-refused : (workspace register number : ℕ) → number ≡ number-of (lengths-test workspace register) → (number ≡ 0 → ⊥) →
+    lengths-test workspace register ≡ refused number 0
 lengths-refused w r number e n = go (leb least-workspace w) (leb header r && leb r most-register) e
   where
-    go : (a b : Bool) → number ≡ number-of (require a workspace-short 0 >> require b register-length 0) → (require a workspace-short 0 >> require b register-length 0) ≡ refused number 0
+    go : (a b : Bool) → number ≡ number-of (require a workspace-short 0 >> require b register-length 0) →
+        (require a workspace-short 0 >> require b register-length 0) ≡ refused number 0
     go false b e = ap (λ (m : ℕ). refused m 0) (sym e)
     go true false e = ap (λ (m : ℕ). refused m 0) (sym e)
     go true true e = absurd (n e)
@@ -89,18 +94,24 @@ lengths-refused w r number e n = go (leb least-workspace w) (leb header r && leb
 signs-refused : (sig table : List ℕ) (n m p : ℕ) → signed sig n ≡ refused m p → Signed-as sig n table (Fault m p)
 signs-refused sig table n m p e = record { answer = sym (stop _ e); constants = λ Σ f. absurd (not-ok (sym e ∙ f)) }
 
-pub signature-bad : (sig table : List ℕ) (n p : ℕ) (r : Listed) → Read-as (signature sig) sig table r → r ≡ Bad p → Signed-as sig n table (Fault bad-signature p)
+pub signature-bad : (sig table : List ℕ) (n p : ℕ) (r : Listed) → Read-as (signature sig) sig table r → r ≡ Bad p →
+    Signed-as sig n table (Fault bad-signature p)
 signature-bad sig table n p r R q = signs-refused sig table n bad-signature p (stop _ (list-refused sig table p r R q))
 
 module _ (sig table : List ℕ) (n count : ℕ) (C : Constants-read sig table count) where
   signed-is : (b : Bool) → b ≡ operations-test (C .Σ) n → signed sig n ≡ (require b bad-number 0 >> ok (C .Σ))
-  signed-is b e = ap (λ x. x >>= λ Σ. require (operations-test Σ n) bad-number 0 >> ok Σ) (C .is) ∙ ap (λ (x : Bool). require x bad-number 0 >> ok (C .Σ)) (sym e)
+  signed-is b e = ap (λ x. x >>= λ Σ. require (operations-test Σ n) bad-number 0 >> ok Σ) (C .is) ∙ ap
+      (λ (x : Bool). require x bad-number 0 >> ok (C .Σ)) (sym e)
 
   pub operations-fit : (b : Bool) → b ≡ operations-test (C .Σ) n → b ≡ true → Signed-as sig n table (Constants count)
   operations-fit b e q =
       let h : signed sig n ≡ ok (C .Σ) = signed-is true (sym q ∙ e) in
       let c = subst (λ (i : ℕ). Constants-of sig (take i table) (C .Σ)) (C .counted) (C .constants-are) in
-      record { answer = sym (bind-is _ h (ap ok (sym (C .counted)))); constants = λ Σ f. subst (λ (S : List Term). Constants-of sig (take (length S) table) S) (ok-inj (sym h ∙ f)) c }
+      record {
+        answer = sym (bind-is _ h (ap ok (sym (C .counted))));
+        constants = λ Σ f.
+            subst (λ (S : List Term). Constants-of sig (take (length S) table) S) (ok-inj (sym h ∙ f)) c;
+      }
 
   pub operations-unfit : (b : Bool) → b ≡ operations-test (C .Σ) n → b ≡ false → Signed-as sig n table (Fault bad-number 0)
   operations-unfit b e q = signs-refused sig table n bad-number 0 (signed-is false (sym q ∙ e))
@@ -130,17 +141,21 @@ module _ {Y : Type 0} (l : Lent) (o : Outline) (own : View → Result Y) where
       tests true Σ = refl
       tests false Σ = refl
 
-      go : (x : Result (List Term)) → (x >>= λ Σ. require (operations-test Σ (l .n)) bad-number 0 >> own (view l o rs Σ)) ≡ ((x >>= λ Σ. require (operations-test Σ (l .n)) bad-number 0 >> ok Σ) >>= λ Σ. own (view l o rs Σ))
+      go : (x : Result (List Term)) → (x >>= λ Σ. require (operations-test Σ (l .n)) bad-number 0 >> own (view l o rs Σ)) ≡
+          ((x >>= λ Σ. require (operations-test Σ (l .n)) bad-number 0 >> ok Σ) >>= λ Σ. own (view l o rs Σ))
       go (ok Σ) = tests (operations-test Σ (l .n)) Σ
       go (refused m p) = refl
 
   pub shared-refused : (records : Result (List Record)) {m p : ℕ} → lengths-test (l .workspace) (o .size) ≡ refused m p → shared l o records own ≡ refused m p
   shared-refused records e = then-refused (require (leb least-workspace (l .workspace)) workspace-short 0) (length-test (o .size)) _ e
 
-  pub shared-broken : (records : Result (List Record)) {m p : ℕ} → lengths-test (l .workspace) (o .size) ≡ ok tt → records ≡ refused m p → shared l o records own ≡ refused m p
-  shared-broken records e r = then-passed (require (leb least-workspace (l .workspace)) workspace-short 0) (length-test (o .size)) _ e ∙ ap (λ x. x >>= λ rs. signature (l .sig) >>= λ Σ. require (operations-test Σ (l .n)) bad-number 0 >> own (view l o rs Σ)) r
+  pub shared-broken : (records : Result (List Record)) {m p : ℕ} → lengths-test (l .workspace) (o .size) ≡ ok tt → records ≡ refused m p →
+      shared l o records own ≡ refused m p
+  shared-broken records e r = then-passed (require (leb least-workspace (l .workspace)) workspace-short 0) (length-test (o .size)) _ e ∙ ap
+      (λ x. x >>= λ rs. signature (l .sig) >>= λ Σ. require (operations-test Σ (l .n)) bad-number 0 >> own (view l o rs Σ)) r
 
-  pub shared-signed : (records : Result (List Record)) (rs : List Record) → lengths-test (l .workspace) (o .size) ≡ ok tt → records ≡ ok rs → shared l o records own ≡ (signed (l .sig) (l .n) >>= λ Σ. own (view l o rs Σ))
+  pub shared-signed : (records : Result (List Record)) (rs : List Record) → lengths-test (l .workspace) (o .size) ≡ ok tt → records ≡
+      ok rs → shared l o records own ≡ (signed (l .sig) (l .n) >>= λ Σ. own (view l o rs Σ))
   unfolding rest
   shared-signed records rs e r = then-passed (require (leb least-workspace (l .workspace)) workspace-short 0) (length-test (o .size)) _ e
       ∙ ap (λ x. x >>= λ rs. signature (l .sig) >>= λ Σ. require (operations-test Σ (l .n)) bad-number 0 >> own (view l o rs Σ)) r ∙ signed-then rs
@@ -187,14 +202,20 @@ module _ (l : Lent) (len : ℕ) (table : List ℕ) where
   pub opened-as : (r : Ready) → Lengths (l .workspace) len → Signed-as (l .sig) (l .n) table r → Opened-as l len table r
   opened-as r L S =
       let h = shared-signed l (fresh-outline len) ok (ok []) [] (L .passed) refl in
-      record { answer = lent-answer l (fresh-outline len) [] table r L S (prepared-to-open l len) h; passed = lent-so l (fresh-outline len) [] table r L S (prepared-to-open l len) h }
+      record {
+        answer = lent-answer l (fresh-outline len) [] table r L S (prepared-to-open l len) h;
+        passed =
+            lent-so l (fresh-outline len) [] table r L S (prepared-to-open l len) h;
+      }
 
 module _ (l : Lent) (reg table : List ℕ) where
   unprepared : (m p : ℕ) → prepared l reg ≡ refused m p → Prepared-as l reg table (Fault m p)
   unprepared m p h = record { answer = sym (stop _ h); passed = λ v f. absurd (not-ok (sym h ∙ f)) }
 
-  pub prepared-refused : (number : ℕ) → number ≡ number-of (lengths-test (l .workspace) (length reg)) → (number ≡ 0 → ⊥) → Prepared-as l reg table (Fault number 0)
-  prepared-refused number e n = unprepared number 0 (shared-refused l (outline-of reg) ok (register-records reg) (lengths-refused (l .workspace) (length reg) number e n))
+  pub prepared-refused : (number : ℕ) → number ≡ number-of (lengths-test (l .workspace) (length reg)) → (number ≡ 0 → ⊥) →
+      Prepared-as l reg table (Fault number 0)
+  prepared-refused number e n = unprepared number 0
+      (shared-refused l (outline-of reg) ok (register-records reg) (lengths-refused (l .workspace) (length reg) number e n))
 
   module _ (c : Contents) (L : Lengths (l .workspace) (length reg)) (e : contents-answer c ≡ record-count reg) where
     pub prepared-broken : c ≡ Broken → Prepared-as l reg table (Fault register-broken 0)

@@ -2,6 +2,9 @@
 use crate::terms::OPERATIONS;
 use crate::terms::signature;
 use logic::limit::LEAST_WORKSPACE;
+use records::format::COUNT;
+use records::format::HEADER;
+use records::format::USED;
 use rules::derivation::Verdict;
 use say::Said;
 
@@ -134,12 +137,12 @@ pub(crate) fn read_line(example: &[u8], register: &[u32], record: usize) {
 
 // The counts of a register: its words used and its records.
 pub(crate) fn counts_line(register: &[u32]) {
-    if register.len() < 2 {
+    if register.len() < HEADER {
         return;
     }
     io::write_all(1, b"used");
-    print_number(register[0]);
+    print_number(register[USED]);
     io::write_all(1, b" records");
-    print_number(register[1]);
+    print_number(register[COUNT]);
     io::write_all(1, b"\n");
 }

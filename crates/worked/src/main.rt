@@ -1,5 +1,5 @@
-// Makes document 01's examples, and those of document 02's requests that have landed, through the calls of the register,
-// and prints a line for each.
+// Makes document 01's examples, and those of document 02's requests that have landed, through the calls of the
+// register, and prints a line for each.
 mod lines;
 mod terms;
 
@@ -148,7 +148,8 @@ fn separate_refusals(register: &[u32]) {
     check_line(b"11, the same said by a0", register, &another);
 }
 
-// The rows of the refusal table, in its order; beside 11 stand document 02's. The registers of 63 words and of 4 records are those that the examples before left.
+// The rows of the refusal table, in its order; beside 11 stand document 02's. The registers of 63 words and of 4
+// records are those that the examples before left.
 fn refusals(register: &mut [u32; 64], short: &mut [u32; 63], granted: &[u32; 64]) {
     heading(b"The refusal table, on a register of 64 words");
     begin(register);

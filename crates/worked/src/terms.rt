@@ -149,7 +149,8 @@ fn long_domain() -> [u32; 12] {
     [PI, PI, APP, C2, S7, PI, APP, C2, S7, APP, C2, S7]
 }
 
-// Pi D 18 times, Pi E 3 times and App C3 App V0 Sign3 A, where E = Pi Says a3 A A. A Sign makes the number of words even.
+// Pi D 18 times, Pi E 3 times and App C3 App V0 Sign3 A, where E = Pi Says a3 A A. A Sign makes the number of words
+// even.
 pub(crate) fn statement_254() -> [u32; 254] {
     let domain = [PI, PI, SAYS, A3, APP, C2, S7, APP, C2, S7];
     let body = [APP, C3, APP, V0, SIGN3, APP, C2, S7];

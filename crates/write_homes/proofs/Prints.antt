@@ -70,17 +70,20 @@ module _ (hs t : List ℕ) (len : ℕ) (size : 2 * most-homes ≡ len) where
   unfolding write-call
   step-done old new n w z = go (formed hs t len) refl (w .number) (w .output)
     where
-      go : (b : Bool) → formed hs t len ≡ b → n ≡ number-of (require b out-of-form 0 >> ok (joined hs t)) → new ≡ after-write (require b out-of-form 0 >> ok (joined hs t)) old → Stepped new
+      go : (b : Bool) → formed hs t len ≡ b → n ≡ number-of (require b out-of-form 0 >> ok (joined hs t)) → new ≡
+          after-write (require b out-of-form 0 >> ok (joined hs t)) old → Stepped new
       go true e x y =
           let f = formed-facts hs t len e in
           record {
-            is = ap (λ (k : ℕ). require (formed hs t k) out-of-form 0 >> ok (joined hs t)) size ∙ ap (λ (b : Bool). require b out-of-form 0 >> ok (joined hs t)) e;
+            is = ap (λ (k : ℕ). require (formed hs t k) out-of-form 0 >> ok (joined hs t)) size ∙ ap
+                (λ (b : Bool). require b out-of-form 0 >> ok (joined hs t)) e;
             front = written-front old new (joined hs t) (2 * length hs) y (sym (joined-length hs t));
             fits = omega (arith, f .fits, size);
           }
       go false e x y = absurd (omega arith)
 
-  pub step-shown : (old mid out words : List ℕ) (to r : ℕ) → Stepped words → Put old 0 home-code-line mid to → Put mid to (fields comma feed (take (2 * length hs) words)) out r → Put old 0 (shown step) out r
+  pub step-shown : (old mid out words : List ℕ) (to r : ℕ) → Stepped words → Put old 0 home-code-line mid to →
+      Put mid to (fields comma feed (take (2 * length hs) words)) out r → Put old 0 (shown step) out r
   unfolding shown
   step-shown old mid out words to r s p q =
       put-is old out (home-code-line ++ fields comma feed (take (2 * length hs) words)) (shown step) 0 r
@@ -155,7 +158,8 @@ module _ (f g : Bool) (bs cs : List ℕ) where
     long-list h = from-read (many-refuse (file home-line feed bs) (file home-code-line comma cs) (λ hs e. omega (arith, file-length home-line feed bs hs e)))
 
     pub long-table : most-table < length cs → refusal ≡ prints
-    long-table h = from-read (wide-refuse (file home-line feed bs) (file home-code-line comma cs) (λ t e. omega (arith, file-length home-code-line comma cs t e)))
+    long-table h = from-read (wide-refuse (file home-line feed bs) (file home-code-line comma cs)
+        (λ t e. omega (arith, file-length home-code-line comma cs t e)))
 
     pub broken-list : {old new : List ℕ} {r : Numbers} → ReadAs (file home-line feed bs) old new r → r ≡ Broken → refusal ≡ prints
     broken-list x e = from-read (first-refuses (file home-line feed bs) (file home-code-line comma cs) (read-broken (file home-line feed bs) x e))
@@ -163,5 +167,7 @@ module _ (f g : Bool) (bs cs : List ℕ) where
     pub broken-table : {old new : List ℕ} {r : Numbers} → ReadAs (file home-code-line comma cs) old new r → r ≡ Broken → refusal ≡ prints
     broken-table x e = from-read (second-refuses (file home-line feed bs) (file home-code-line comma cs) (read-broken (file home-code-line comma cs) x e))
 
-    pub read-shown : (hs t old out : List ℕ) (r : ℕ) → file home-line feed bs ≡ ok hs → file home-code-line comma cs ≡ ok t → Put old 0 (shown (write-call hs t (2 * most-homes))) out r → Put old 0 prints out r
-    read-shown hs t old out r x y p = put-is old out (shown (write-call hs t (2 * most-homes))) prints 0 r (sym (there ∙ ap₂ (λ (o q : Result (List ℕ)). shown (both o q)) x y)) p
+    pub read-shown : (hs t old out : List ℕ) (r : ℕ) → file home-line feed bs ≡ ok hs → file home-code-line comma cs ≡ ok t →
+        Put old 0 (shown (write-call hs t (2 * most-homes))) out r → Put old 0 prints out r
+    read-shown hs t old out r x y p = put-is old out (shown (write-call hs t (2 * most-homes))) prints 0 r
+        (sym (there ∙ ap₂ (λ (o q : Result (List ℕ)). shown (both o q)) x y)) p

@@ -1,5 +1,5 @@
--- What the program prints: from the bytes of the two files, or their absence, to bytes. Sentences in quotation marks are
--- document 02's, slip 3.
+-- What the program prints: from the bytes of the two files, or their absence, to bytes. Sentences in quotation marks
+-- are document 02's, slip 3.
 use Prim.Native.Nat.{ℕ, _+_, _*_}
 use mathlib.Core.Bool.{Bool}
 use mathlib.Core.Option.{Option, some, none}

@@ -1,4 +1,4 @@
--- Three ways out: the form is broken, the request is refused, or it is extract-granted and the homes are written.
+-- Three ways out: the form is broken, the request is refused, or it is granted and the homes are written.
 use mathlib.Core.Bool.{true}
 use mathlib.Core.Path.{_≡_, sym, _∙_}
 use lib.ListN.{length}

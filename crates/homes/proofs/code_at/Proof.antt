@@ -29,7 +29,8 @@ shared-slice-read-result : tie.Need-shared-slice-read-result
 shared-slice-read-result c = search needs
 
 returns-3 : tie.Need-returns-3
-returns-3 c = let a = c .before .before .before .before .args in row-own (a .surveys .now) (a .home) (a .j) (c .before .before .before .if1 .left) (c .before .if2 .left)
+returns-3 c = let a = c .before .before .before .before .args in
+    row-own (a .surveys .now) (a .home) (a .j) (c .before .before .before .if1 .left) (c .before .if2 .left)
 
 pub code-at-spec : {M : Type 1} → statement M
 code-at-spec =

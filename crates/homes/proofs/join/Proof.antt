@@ -1,6 +1,6 @@
--- A loop over homes and rows together. The invariant: the homes before k are written, and the pass over the homes from k
--- on and the rows from j on writes what is left. The measure: the homes and the rows left, of which a turn takes one at
--- least, so that there are at most as many turns as homes and rows.
+-- A loop over homes and rows together. The invariant: the homes before k are written, and the pass over the homes
+-- from k on and the rows from j on writes what is left. The measure: the homes and the rows left, of which a turn
+-- takes one at least, so that there are at most as many turns as homes and rows.
 use Prim.Native.Nat.{ℕ, _≤_, _-_, _+_, _*_, _/_}
 use native.Mathlib.Omega.{arith}
 use mathlib.Core.Bool.{true}

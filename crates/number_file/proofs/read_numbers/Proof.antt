@@ -1,5 +1,5 @@
--- A loop over the bytes; the invariant: the numbers so far stand at the front of the words, and what is left is read from
--- byte i on behind the number so far. Each number took two bytes at least, so there is room for it.
+-- A loop over the bytes; the invariant: the numbers so far stand at the front of the words, and what is left is read
+-- from byte i on behind the number so far. Each number took two bytes at least, so there is room for it.
 use Prim.Native.Nat.{_≤_, _-_, _+_, _*_}
 use native.Mathlib.Omega.{arith}
 use mathlib.Core.Bool.{true}

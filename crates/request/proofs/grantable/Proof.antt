@@ -6,7 +6,8 @@ use Rattle.register.specs.Records.{Ask, ask-of}
 use Rattle.register.specs.Calls.{Lent, request-own}
 use Rattle.shared_tests.specs.Shared.{lent-of}
 use Rattle.shared_tests.proofs.OwnTests.{Passed-so, passed-so, table-within}
-use Rattle.request.proofs.Grants.{request-not-prepared, bad-numbers, in-range-numbers, request-not-typed, request-type, request-term, words-inside, proved}
+use Rattle.request.proofs.Grants.{request-not-prepared, bad-numbers, in-range-numbers, request-not-typed}
+use Rattle.request.proofs.Grants.{request-type, request-term, words-inside, proved}
 use native.Mathlib.Omega.{arith}
 use borrow.Author.Needs.{needs}
 use Rattle.request.proofs.grantable.Statement.{statement}
@@ -90,7 +91,8 @@ returns c =
     let at-start = before-table (before-prepare at-prepare) in
     let a = at-start .args in
     let S = passed at-ready2 in
-    bad-numbers (lent-here at-start) (a .register .now) (at-prepare .prepare .last .1 .1 .1 .0) (asked at-start) (at-prepare .prepare .result) (at-prepare .prepare .ensures) (at-ready2 .ready2 .given .0 .0) (passed at-ready2)
+    bad-numbers (lent-here at-start) (a .register .now) (at-prepare .prepare .last .1 .1 .1 .0) (asked at-start)
+    (at-prepare .prepare .result) (at-prepare .prepare .ensures) (at-ready2 .ready2 .given .0 .0) (passed at-ready2)
     (at-numbers .numbers .result) (at-numbers .numbers .ensures (a .proof .now)) (not-true _ (c .if1 .taken))
 
 array-share-prefix-table : tie.Need-array-share-prefix-table
@@ -140,9 +142,11 @@ proves-requires c κs =
     let at-start = before-table (before-prepare at-prepare) in
     let a = at-start .args in
     let S = passed at-ready2 in
-    let N = in-range-numbers (lent-here at-start) (a .register .now) (at-prepare .prepare .last .1 .1 .1 .0) (asked at-start) (at-prepare .prepare .result) (at-prepare .prepare .ensures) (at-ready2 .ready2 .given .0 .0) (passed at-ready2)
+    let N = in-range-numbers (lent-here at-start) (a .register .now) (at-prepare .prepare .last .1 .1 .1 .0) (asked at-start)
+    (at-prepare .prepare .result) (at-prepare .prepare .ensures) (at-ready2 .ready2 .given .0 .0) (passed at-ready2)
     (at-numbers .numbers .result) (at-numbers .numbers .ensures (a .proof .now)) (not-false _ (at-else1 .if1 .left)) in
-    let T = request-term (lent-here at-start) (a .register .now) (at-prepare .prepare .last .1 .1 .1 .0) (asked at-start) (at-prepare .prepare .result) (at-prepare .prepare .ensures) (at-ready2 .ready2 .given .0 .0) (passed at-ready2)
+    let T = request-term (lent-here at-start) (a .register .now) (at-prepare .prepare .last .1 .1 .1 .0) (asked at-start)
+    (at-prepare .prepare .result) (at-prepare .prepare .ensures) (at-ready2 .ready2 .given .0 .0) (passed at-ready2)
     (at-numbers .numbers .result) (at-numbers .numbers .ensures (a .proof .now)) (not-false _ (at-else1 .if1 .left))
     (at-check-term .check-term .last .1 .1 .1 .1 .1 .0) (at-check-term .check-term .result) _ _
     (at-check-term .check-term .ensures (S .Σ) (S .constants)) (c .before .before .typed2 .given .1) in
@@ -153,7 +157,8 @@ proves-requires c κs =
       is = T .term-is;
       operation = omega (arith, N .0, S .lent-so .operations);
       extract = N .1;
-      inside = words-inside (lent-here at-start) (a .register .now) (at-prepare .prepare .last .1 .1 .1 .0) (asked at-start) (at-prepare .prepare .result) (at-prepare .prepare .ensures) (at-ready2 .ready2 .given .0 .0) (passed at-ready2)
+      inside = words-inside (lent-here at-start) (a .register .now) (at-prepare .prepare .last .1 .1 .1 .0) (asked at-start)
+          (at-prepare .prepare .result) (at-prepare .prepare .ensures) (at-ready2 .ready2 .given .0 .0) (passed at-ready2)
           (at-numbers .numbers .result) (at-numbers .numbers .ensures (a .proof .now)) (not-false _ (at-else1 .if1 .left))
           (at-check-term .check-term .last .1 .1 .1 .1 .1 .0) (at-check-term .check-term .result) _ _
           (at-check-term .check-term .ensures (S .Σ) (S .constants)) (c .before .before .typed2 .given .1);
@@ -168,7 +173,8 @@ returns-2 c =
     let at-prepare = before-table2 (c .before .before .before .before .before) in
     let at-start = before-table (before-prepare at-prepare) in
     let a = at-start .args in
-    request-not-prepared (lent-here at-start) (a .register .now) (at-prepare .prepare .last .1 .1 .1 .0) (asked at-start) (at-prepare .prepare .result) (at-prepare .prepare .ensures) _ _ (c .before .ready .given .1)
+    request-not-prepared (lent-here at-start) (a .register .now) (at-prepare .prepare .last .1 .1 .1 .0) (asked at-start)
+    (at-prepare .prepare .result) (at-prepare .prepare .ensures) _ _ (c .before .ready .given .1)
 
 same-length-3 : tie.Need-same-length-3
 same-length-3 c = search needs
@@ -183,7 +189,8 @@ returns-3 c =
     let at-start = before-table (before-prepare at-prepare) in
     let a = at-start .args in
     let S = passed at-ready2 in
-    request-not-typed (lent-here at-start) (a .register .now) (at-prepare .prepare .last .1 .1 .1 .0) (asked at-start) (at-prepare .prepare .result) (at-prepare .prepare .ensures) (at-ready2 .ready2 .given .0 .0) (passed at-ready2)
+    request-not-typed (lent-here at-start) (a .register .now) (at-prepare .prepare .last .1 .1 .1 .0) (asked at-start)
+    (at-prepare .prepare .result) (at-prepare .prepare .ensures) (at-ready2 .ready2 .given .0 .0) (passed at-ready2)
     (at-numbers .numbers .result) (at-numbers .numbers .ensures (a .proof .now)) (not-false _ (at-else1 .if1 .left)) _ (at-check-term .check-term .result) _ _
     (at-check-term .check-term .ensures (S .Σ) (S .constants)) (c .before .typed .given .1)
 
@@ -200,11 +207,13 @@ returns-4 c =
     let at-start = before-table (before-prepare at-prepare) in
     let a = at-start .args in
     let S = passed at-ready2 in
-    let A = request-type (lent-here at-start) (a .register .now) (at-prepare .prepare .last .1 .1 .1 .0) (asked at-start) (at-prepare .prepare .result) (at-prepare .prepare .ensures) (at-ready2 .ready2 .given .0 .0) (passed at-ready2)
+    let A = request-type (lent-here at-start) (a .register .now) (at-prepare .prepare .last .1 .1 .1 .0) (asked at-start)
+    (at-prepare .prepare .result) (at-prepare .prepare .ensures) (at-ready2 .ready2 .given .0 .0) (passed at-ready2)
     (at-numbers .numbers .result) (at-numbers .numbers .ensures (a .proof .now)) (not-false _ (at-else1 .if1 .left))
     (at-check-term .check-term .last .1 .1 .1 .1 .1 .0) (at-check-term .check-term .result) _ _
     (at-check-term .check-term .ensures (S .Σ) (S .constants)) (c .before .before .before .typed2 .given .1) in
-    let T = request-term (lent-here at-start) (a .register .now) (at-prepare .prepare .last .1 .1 .1 .0) (asked at-start) (at-prepare .prepare .result) (at-prepare .prepare .ensures) (at-ready2 .ready2 .given .0 .0) (passed at-ready2)
+    let T = request-term (lent-here at-start) (a .register .now) (at-prepare .prepare .last .1 .1 .1 .0) (asked at-start)
+    (at-prepare .prepare .result) (at-prepare .prepare .ensures) (at-ready2 .ready2 .given .0 .0) (passed at-ready2)
     (at-numbers .numbers .result) (at-numbers .numbers .ensures (a .proof .now)) (not-false _ (at-else1 .if1 .left))
     (at-check-term .check-term .last .1 .1 .1 .1 .1 .0) (at-check-term .check-term .result) _ _
     (at-check-term .check-term .ensures (S .Σ) (S .constants)) (c .before .before .before .typed2 .given .1) in

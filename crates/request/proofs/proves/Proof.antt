@@ -56,7 +56,8 @@ returns c =
     let p = c .before in
     let s = start p in
     λ l Σ rs delivery t A g i T e.
-    request-another l Σ rs (s .args .register .now) (asked s delivery) t A (p .permits .result) (p .permits .ensures A delivery (s .args .proof .now) T e) (not-true _ (c .if1 .taken))
+    request-another l Σ rs (s .args .register .now) (asked s delivery) t A (p .permits .result)
+    (p .permits .ensures A delivery (s .args .proof .now) T e) (not-true _ (c .if1 .taken))
 
 view-of-requires : tie.Need-view-of-requires
 view-of-requires c κs = let s = start (c .before) in header-there (s .args .register .now) (s .pre .reads)

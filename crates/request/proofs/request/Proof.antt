@@ -60,7 +60,8 @@ add-grant-requires c κs =
       omega (arith, G .operation, G .proof .ready .not-more),
       G .extract,
       G .delivery,
-      grant-room (lent-here s) (a .register .now) (asked s) (at-grantable .grantable .result) (at-grantable .grantable .ensures) (c .before .enum-told .given .1),
+      grant-room (lent-here s) (a .register .now) (asked s) (at-grantable .grantable .result) (at-grantable .grantable .ensures)
+          (c .before .enum-told .given .1),
     )
 
 same-length-3 : tie.Need-same-length-3

@@ -1,3 +1,4 @@
+-- `accept` makes tests 4 and 5: it reads the signature and tests its permits and receipts.
 use mathlib.Core.Path.{sym}
 use lib.Seq.{length-take-le}
 use Rattle.shared_tests.proofs.SharedTests.{signature-bad, operations-fit, operations-unfit}

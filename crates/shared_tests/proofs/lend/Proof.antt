@@ -1,3 +1,4 @@
+-- `lend` makes tests 1, 2, 4 and 5 of open, which has no register to read.
 use mathlib.Core.Path.{sym, _∙_}
 use lib.ListN.{length}
 use Rattle.shared_tests.specs.Shared.{lent-of}

@@ -1,3 +1,4 @@
+-- `prepare` makes tests 1 to 5, in their order, before any other test of check, say and request.
 use mathlib.Core.Path.{sym, _∙_}
 use lib.ListN.{length}
 use Rattle.shared_tests.specs.Shared.{lent-of}

@@ -68,7 +68,8 @@ array-share-prefix-out c = let w = put-within _ _ _ _ (c .before .print .ensures
 
 slice-aggregate-write-all : tie.Need-slice-aggregate-write-all
 slice-aggregate-write-all c =
-    sym (length-take-le (c .before .before .print .result) (c .before .before .print .last .1 .1 .1 .1 .0) (put-within _ _ _ _ (c .before .before .print .ensures)))
+    sym (length-take-le (c .before .before .print .result) (c .before .before .print .last .1 .1 .1 .1 .0)
+    (put-within _ _ _ _ (c .before .before .print .ensures)))
 
 write-all-requires : tie.Need-write-all-requires
 write-all-requires c κs = search needs

@@ -1,3 +1,4 @@
+-- `print_words` reads within the words. The loop keeps: i is at most their number. Measure: the words left.
 use Prim.Native.Nat.{_-_, _≤_}
 use lib.ListN.{length}
 use borrow.Author.Needs.{needs}

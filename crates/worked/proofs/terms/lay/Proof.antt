@@ -1,3 +1,4 @@
+-- `lay` reads and writes within its slices. The loop keeps: i is at most the length of out. Measure: the words left.
 use native.Mathlib.Nat.{mod-lt}
 use mathlib.Core.Path.{_≡_}
 use Prim.Native.Nat.{_-_, _≤_}

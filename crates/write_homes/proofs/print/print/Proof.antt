@@ -48,7 +48,8 @@ table-there c = not-false _ (c .if2 .left)
 
 -- the numbers of the files
 homes-found : (c : tie.After-known-told) →
-    Found (file home-line feed (start (both-there (list-read c) .before) .args .list .now)) (c .before .listed .given .0 .0) (list-read c .read .last .1 .1 .1 .0)
+    Found (file home-line feed (start (both-there (list-read c) .before) .args .list .now)) (c .before .listed .given .0 .0)
+    (list-read c .read .last .1 .1 .1 .0)
 homes-found c =
     let r = list-read c in
     read-found (file home-line feed (start (both-there r .before) .args .list .now)) (r .before .before .before .list-words .result) (r .read .ensures)

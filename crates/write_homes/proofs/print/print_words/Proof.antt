@@ -40,7 +40,8 @@ fields-lent c = c .before .before
 -- the words of the step, and their room
 stepped : (c : tie.Else1) →
     Stepped (start (words-ready (stepped-there c)) .args .homes .now) (start (words-ready (stepped-there c)) .args .surveys .now)
-    (length (words-ready (stepped-there c) .output-words .result)) (words-ready (stepped-there c) .output-words .ensures) (stepped-there c .write .last .1 .1 .0)
+    (length (words-ready (stepped-there c) .output-words .result)) (words-ready (stepped-there c) .output-words .ensures)
+    (stepped-there c .write .last .1 .1 .0)
 stepped c =
     let w = stepped-there c in
     let o = words-ready w in
