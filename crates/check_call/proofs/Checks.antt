@@ -31,20 +31,20 @@ use Rattle.records.specs.declared.search.Unheld.{Unheld}
 use Rattle.records.specs.declared.search.Unheld.the-variants.{Nowhere, At}
 use Rattle.register.specs.Records.{Record, register-records, held}
 use Rattle.register.specs.Calls.{Lent, Outline, View, view, length-test, shared, outline-of, on-register, signs-held, check-own, check-call}
-use Rattle.check_call.specs.Answers.{Handed-as}
-use Rattle.shared_tests.specs.Shared.{ready-answer, prepared, constants-found, Lent-so, Prepared-as}
-use Rattle.shared_tests.proofs.OwnTests.{not-prepared, Passed-so, typed-refused, Type-found, type-found, type-refused, Typed-so, typed-so, words-within}
+use Rattle.check_call.specs.Answers.{HandedAs}
+use Rattle.shared_tests.specs.Shared.{ready-answer, prepared, constants-found, LentSo, PreparedAs}
+use Rattle.shared_tests.proofs.OwnTests.{not-prepared, PassedSo, typed-refused, TypeFound, type-found, type-refused, TypedSo, typed-so, words-within}
 use Rattle.shared_tests.specs.declared.Ready.{Ready}
 use Rattle.shared_tests.specs.declared.Ready.the-variants.{Constants, Fault}
 
 judged-refused : (o : Result Term) (end : ℕ) (new : List ℕ) (m p : ℕ) → o ≡ refused m p → Judged o end new (Refused m p)
 judged-refused o end new m p e = subst (λ (x : Result Term). Judged x end new (Refused m p)) (sym e) (record { answer = refl; front = tt })
 
-module _ (l : Lent) (reg table term : List ℕ) (r : Ready) (P : Prepared-as l reg table r) where
+module _ (l : Lent) (reg table term : List ℕ) (r : Ready) (P : PreparedAs l reg table r) where
   pub check-not-prepared : (new : List ℕ) (m p : ℕ) → r ≡ Fault m p → Judged (check-call l reg term) (length term) new (Refused m p)
   check-not-prepared new m p q = judged-refused _ _ new m p (not-prepared l reg table r (check-own term) P m p q)
 
-  module _ (count : ℕ) (so : Passed-so l reg table r (check-own term) P count) where
+  module _ (count : ℕ) (so : PassedSo l reg table r (check-own term) P count) where
     pub check-not-typed : (new : List ℕ) (d : Derivation) (m p : ℕ) →
         Judged (typed-term (so .Σ) most-words most-nesting term) (length term) new d → d ≡ Refused m p →
         Judged (check-call l reg term) (length term) new d
@@ -55,10 +55,10 @@ module _ (l : Lent) (reg table term : List ℕ) (r : Ready) (P : Prepared-as l r
 
     module _ (new : List ℕ) (d : Derivation) (words e : ℕ)
         (J : Judged (typed-term (so .Σ) most-words most-nesting term) (length term) new d) (f : d ≡ Typed words e) where
-      pub check-type : Type-found (typed-term (so .Σ) most-words most-nesting term) new words
+      pub check-type : TypeFound (typed-term (so .Σ) most-words most-nesting term) new words
       check-type = type-found _ _ new d words e J f
 
-      pub check-term-found : Typed-so (so .Σ) term (check-type .type)
+      pub check-term-found : TypedSo (so .Σ) term (check-type .type)
       check-term-found = typed-so (so .Σ) term (check-type .type) (check-type .is)
 
       check-is : check-call l reg term ≡ (signs-held (held (so .rs)) (check-term-found .term) >> ok (check-type .type))
@@ -78,13 +78,13 @@ module _ (l : Lent) (reg table term : List ℕ) (r : Ready) (P : Prepared-as l r
 -- ---- what is handed back
 
 module _ (o : Result Term) (end : ℕ) (new : List ℕ) (r : Derivation) (J : Judged o end new r) where
-  pub handed-type : (words e : ℕ) → r ≡ Typed words e → Handed-as o (take words new) 0 0
+  pub handed-type : (words e : ℕ) → r ≡ Typed words e → HandedAs o (take words new) 0 0
   handed-type words e q =
       let T = type-found o end new r words e J q in
       let w : take words new ≡ encode (T .type) = ap₂ (λ (i : ℕ) (x : List ℕ). take i x) (T .words-are) (T .front .words) ∙ take-at
       (encode (T .type)) (T .front .rest) (size (T .type)) (encode-size (T .type)) in
-      subst (λ (x : Result Term). Handed-as x (take words new) 0 0) (sym (T .is)) (record { part-is = w; number-is = refl; place-is = refl })
+      subst (λ (x : Result Term). HandedAs x (take words new) 0 0) (sym (T .is)) (record { part-is = w; number-is = refl; place-is = refl })
 
-  pub handed-nothing : (m p : ℕ) → r ≡ Refused m p → Handed-as o (take 0 new) m p
-  handed-nothing m p q = subst (λ (x : Result Term). Handed-as x (take 0 new) m p) (sym (type-refused o end new r m p J q))
+  pub handed-nothing : (m p : ℕ) → r ≡ Refused m p → HandedAs o (take 0 new) m p
+  handed-nothing m p q = subst (λ (x : Result Term). HandedAs x (take 0 new) m p) (sym (type-refused o end new r m p J q))
       (record { part-is = refl; number-is = refl; place-is = refl })

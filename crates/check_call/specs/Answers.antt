@@ -11,7 +11,7 @@ type-of (ok A) = encode A
 type-of (refused m p) = []
 
 -- what check hands back: a part of the workspace that holds exactly the type's words, a number and a place
-pub record Handed-as (o : Result Term) (part : List ℕ) (number place : ℕ) : Type 0 where
+pub record HandedAs (o : Result Term) (part : List ℕ) (number place : ℕ) : Type 0 where
   pub part-is : part ≡ type-of o
   pub number-is : number ≡ number-of o
   pub place-is : place ≡ place-of o

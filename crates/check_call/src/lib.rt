@@ -12,7 +12,7 @@ use typing::check::check_term;
 ghost use lib.ListN.{length};
 ghost use Rattle.typing.specs.Check.{Judged};
 ghost use Rattle.register.specs.Calls.{check-call};
-ghost use Rattle.check_call.specs.Answers.{Handed-as};
+ghost use Rattle.check_call.specs.Answers.{HandedAs};
 ghost use Rattle.shared_tests.specs.Shared.{lent-of};
 
 // Tests 1 to 12 and 14. The type stands at the front of the workspace.
@@ -52,7 +52,7 @@ pub fn check<'a>(
     number: &mut u32,
     place: &mut usize,
 ) -> &'a mut [u32]
-    ensures { λ r. ⌜ Handed-as (check-call (lent-of (now (sig .entry)) n (now (ws .entry))) (now (register .entry)) (now (term .entry)))
+    ensures { λ r. ⌜ HandedAs (check-call (lent-of (now (sig .entry)) n (now (ws .entry))) (now (register .entry)) (now (term .entry)))
         (now r) (now (number .exit)) (now (place .exit)) ⌝ }
 {
     let judged = judge(sig, n, register, term, ws);

@@ -13,9 +13,9 @@ use Rattle.typing.specs.Check.{without-value}
 use Rattle.words.specs.Place.{written}
 use Rattle.register.specs.Records.{Ask}
 use Rattle.register.specs.Calls.{Lent, request-call, after-request}
-use Rattle.request.specs.Requested.{Requested-as}
+use Rattle.request.specs.Requested.{RequestedAs}
 use Rattle.homes.specs.Homes.{formed, joined, after-write}
-use Rattle.extract.specs.Extract.{extract-call, Extracted-as}
+use Rattle.extract.specs.Extract.{extract-call, ExtractedAs}
 
 -- a value put behind an answer, and taken away again
 same-answer : (o : Result (Unit {0})) (xs : List ℕ) → without-value (o >> ok xs) ≡ o
@@ -50,19 +50,19 @@ module _ (l : Lent) (reg : List ℕ) (k : Ask) (hs t old : List ℕ) where
     pub register : new ≡ after-request (without-value o) reg k
     pub output : out ≡ after-write o old
 
-  told : (o : Result (List ℕ)) (new out : List ℕ) (r : Verdict) → call ≡ o → Known o new out r → Extracted-as l reg k hs t new old out r
+  told : (o : Result (List ℕ)) (new out : List ℕ) (r : Verdict) → call ≡ o → Known o new out r → ExtractedAs l reg k hs t new old out r
   told o new out r e x = record {
     answer = x .answer ∙ sym (ap without-value e);
     register = x .register ∙ sym (ap (λ (o : Result (List ℕ)). after-request (without-value o) reg k) e);
     output = x .output ∙ sym (ap (λ (o : Result (List ℕ)). after-write o old) e);
   }
 
-  pub extract-not-formed : formed hs t (length old) ≡ false → Extracted-as l reg k hs t reg old old (Fault out-of-form 0)
+  pub extract-not-formed : formed hs t (length old) ≡ false → ExtractedAs l reg k hs t reg old old (Fault out-of-form 0)
   extract-not-formed e =
       told (refused out-of-form 0) reg old (Fault out-of-form 0) (broken-form l reg k hs t (length old) e)
       record { answer = refl; register = refl; output = refl }
 
-  module _ (e : formed hs t (length old) ≡ true) (new : List ℕ) (r : Verdict) (q : Requested-as l reg k new r) where
+  module _ (e : formed hs t (length old) ≡ true) (new : List ℕ) (r : Verdict) (q : RequestedAs l reg k new r) where
     -- the answer of the request, where the verdict is known
     asked : (x : Verdict) → r ≡ x → request-call l reg k ≡ verdict-answer x
     asked x f = sym (q .answer) ∙ ap verdict-answer f
@@ -74,9 +74,9 @@ module _ (l : Lent) (reg : List ℕ) (k : Ask) (hs t old : List ℕ) where
     kept : (x : Verdict) → r ≡ x → new ≡ after-request (verdict-answer x) reg k
     kept x f = q .register ∙ ap (λ (o : Result (Unit {0})). after-request o reg k) (asked x f)
 
-    pub extract-not-granted : (m place : ℕ) → r ≡ Fault m place → Extracted-as l reg k hs t new old old r
+    pub extract-not-granted : (m place : ℕ) → r ≡ Fault m place → ExtractedAs l reg k hs t new old old r
     extract-not-granted m place f =
         told (refused m place) new old r (outcome (Fault m place) f) record { answer = ap verdict-answer f; register = kept (Fault m place) f; output = refl }
 
-    pub extract-granted : (out : List ℕ) → r ≡ Passed → out ≡ written old 0 (joined hs t) → Extracted-as l reg k hs t new old out Passed
+    pub extract-granted : (out : List ℕ) → r ≡ Passed → out ≡ written old 0 (joined hs t) → ExtractedAs l reg k hs t new old out Passed
     extract-granted out f w = told (ok (joined hs t)) new out Passed (outcome Passed f) record { answer = refl; register = kept Passed f; output = w }

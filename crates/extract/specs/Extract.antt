@@ -21,7 +21,7 @@ extract-call l reg k hs t room = do
   ok (joined hs t)
 
 -- the answer, and the register and the output afterwards
-pub record Extracted-as (l : Lent) (reg : List ℕ) (k : Ask) (homes surveys new old out : List ℕ) (r : Verdict) : Type 0 where
+pub record ExtractedAs (l : Lent) (reg : List ℕ) (k : Ask) (homes surveys new old out : List ℕ) (r : Verdict) : Type 0 where
   pub answer : verdict-answer r ≡ without-value (extract-call l reg k homes surveys (length old))
   pub register : new ≡ after-request (without-value (extract-call l reg k homes surveys (length old))) reg k
   pub output : out ≡ after-write (extract-call l reg k homes surveys (length old)) old

@@ -7,7 +7,7 @@ use request::request;
 use rules::derivation::Verdict;
 ghost use Rattle.register.specs.Records.{ask-of};
 ghost use Rattle.shared_tests.specs.Shared.{lent-of};
-ghost use Rattle.extract.specs.Extract.{Extracted-as};
+ghost use Rattle.extract.specs.Extract.{ExtractedAs};
 
 // First the form, then the request; the output is written behind the grant.
 pub fn extract(
@@ -23,7 +23,7 @@ pub fn extract(
     surveys: &[u32],
     out: &mut [u32],
 ) -> Verdict
-    ensures { λ r. ⌜ Extracted-as (lent-of (now (sig .entry)) n (now (ws .entry))) (now (register .entry))
+    ensures { λ r. ⌜ ExtractedAs (lent-of (now (sig .entry)) n (now (ws .entry))) (now (register .entry))
         (ask-of operation extract delivery (now (proof .entry))) (now (homes .entry)) (now (surveys .entry))
         (now (register .exit)) (now (out .entry)) (now (out .exit)) r ⌝ }
 {

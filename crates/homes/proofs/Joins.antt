@@ -27,12 +27,12 @@ walked (h ∷ hs) t = h ∷ here h (beyond h t) ∷ walked hs (beyond h t)
 
 -- ---- what a form that holds tells
 
-pub record Row-facts (least h c : ℕ) (t : List ℕ) : Type 0 where
+pub record RowFacts (least h c : ℕ) (t : List ℕ) : Type 0 where
   pub low : least ≤ h
   pub code : eqb c no-survey ≡ false
   pub rest : rows (h + 1) t ≡ true
 
-pub row-facts : (least h c : ℕ) (t : List ℕ) → rows least (h ∷ c ∷ t) ≡ true → Row-facts least h c t
+pub row-facts : (least h c : ℕ) (t : List ℕ) → rows least (h ∷ c ∷ t) ≡ true → RowFacts least h c t
 unfolding rows
 row-facts least h c t e =
     let a = both-true (leb least h && not (eqb c no-survey)) (rows (h + 1) t) e in
@@ -43,11 +43,11 @@ row-facts least h c t e =
     even true q = sym q
     even false q = refl
 
-pub record Home-facts (least h : ℕ) (hs : List ℕ) : Type 0 where
+pub record HomeFacts (least h : ℕ) (hs : List ℕ) : Type 0 where
   pub low : least ≤ h
   pub rest : rising (h + 1) hs ≡ true
 
-pub home-facts : (least h : ℕ) (hs : List ℕ) → rising least (h ∷ hs) ≡ true → Home-facts least h hs
+pub home-facts : (least h : ℕ) (hs : List ℕ) → rising least (h ∷ hs) ≡ true → HomeFacts least h hs
 unfolding rising
 home-facts least h hs e = let a = both-true (leb least h) (rising (h + 1) hs) e in record { low = leb-true least h (a .0); rest = a .1 }
 

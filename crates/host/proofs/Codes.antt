@@ -21,12 +21,12 @@ use Rattle.register.specs.Calls.{Lent, open-call, say-call, request-call, check
 use Rattle.register.proofs.Bounds.{Number, open-bound, say-bound, request-bound, check-bound}
 use Rattle.shared_tests.proofs.OwnTests.{words-within}
 use Rattle.check_call.proofs.Checks.{handed-type, handed-nothing}
-use Rattle.say.specs.Said.{said-answer, Says-as}
+use Rattle.say.specs.Said.{said-answer, SaysAs}
 use Rattle.say.specs.declared.Said.{Said}
 use Rattle.say.specs.declared.Said.the-variants.{Added, Held, Fault as Not-said}
 use Rattle.extract.specs.Extract.{extract-call}
 use Rattle.extract.proofs.Demands.{extract-bound}
-use Rattle.host.specs.Answers.{number-unit, place-limit, code-of, added-of, Said-to, Typed-to}
+use Rattle.host.specs.Answers.{number-unit, place-limit, code-of, added-of, SaidTo, TypedTo}
 
 -- a number and a place that make up an answer
 abbrev pub Fits : ℕ → ℕ → Type 0
@@ -75,23 +75,23 @@ extract-fits l reg k homes surveys room m p h e = let (n, q) = extract-bound l r
 
 -- ---- say
 
-module _ (l : Lent) (old : List ℕ) (st : Statement) (new : List ℕ) (r : Said) (S : Says-as l old st new r) where
+module _ (l : Lent) (old : List ℕ) (st : Statement) (new : List ℕ) (r : Said) (S : SaysAs l old st new r) where
   abbrev o : Result Bool
   o = say-call l old st
 
   told : {x : Said} → r ≡ x → said-answer x ≡ o
   told f = sym (ap said-answer f) ∙ S .answer
 
-  pub said-added : r ≡ Added → Said-to l old st new 1 0
+  pub said-added : r ≡ Added → SaidTo l old st new 1 0
   said-added f = let e = told f in record { answer = ap code-of e; register = S .register; added-is = ap added-of e }
 
-  pub said-held : r ≡ Held → Said-to l old st new 0 0
+  pub said-held : r ≡ Held → SaidTo l old st new 0 0
   said-held f = let e = told f in record { answer = ap code-of e; register = S .register; added-is = ap added-of e }
 
   pub unsaid-is : (m p : ℕ) → r ≡ Not-said m p → o ≡ refused m p
   unsaid-is m p f = sym (told f)
 
-  pub said-nothing : (m p : ℕ) → r ≡ Not-said m p → (code : ℕ) → code ≡ m * number-unit + p → Said-to l old st new 0 code
+  pub said-nothing : (m p : ℕ) → r ≡ Not-said m p → (code : ℕ) → code ≡ m * number-unit + p → SaidTo l old st new 0 code
   said-nothing m p f code c = let e = unsaid-is m p f in record { answer = refused-code o m p code e c; register = S .register; added-is = sym (ap added-of e) }
 
 pub say-fits : (l : Lent) (reg : List ℕ) (st : Statement) (m p : ℕ) → length (l .sig) + length (st .words) < place-limit →
@@ -106,7 +106,7 @@ check-fits l reg term h e f = handed-fits (check-call l reg term) (length (l .si
 
 -- a check that leaves the type in the workspace
 module _ (o : Result Term) (end : ℕ) (new : List ℕ) (r : Derivation) (J : Judged o end new r) where
-  pub typed-to : (words e : ℕ) → r ≡ Typed words e → Typed-to o new words 0
+  pub typed-to : (words e : ℕ) → r ≡ Typed words e → TypedTo o new words 0
   typed-to words e q =
       let H = handed-type o end new r J words e q in
       record {
@@ -116,7 +116,7 @@ module _ (o : Result Term) (end : ℕ) (new : List ℕ) (r : Derivation) (J : Ju
         type = H .part-is;
       }
 
-  pub refused-to : (m p : ℕ) → r ≡ Refused m p → (code : ℕ) → code ≡ m * number-unit + p → Typed-to o new 0 code
+  pub refused-to : (m p : ℕ) → r ≡ Refused m p → (code : ℕ) → code ≡ m * number-unit + p → TypedTo o new 0 code
   refused-to m p q code c =
       let H = handed-nothing o end new r J m p q in
       record { answer = c ∙ handed-code o (H .number-is) (H .place-is); words-are = ap length (H .part-is); type = H .part-is }

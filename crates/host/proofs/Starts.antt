@@ -22,7 +22,7 @@ use Rattle.records.specs.Answers.{RecordsAt}
 use Rattle.read_call.specs.Read.{Among, body-of, kind-of}
 use Rattle.records.proofs.Items.{records-there}
 use Rattle.read_call.proofs.ReadAnswers.{Reached, reached-bounds, read-there}
-use Rattle.host.specs.Answers.{number-unit, code-of, start-of, Read-to}
+use Rattle.host.specs.Answers.{number-unit, code-of, start-of, ReadTo}
 
 -- the records before k fill the words up to it
 start-from : (reg : List ℕ) (rs : List Record) (at k : ℕ) → RecordsAt reg header rs → RecordsAt reg at (drop k rs) → at ≡ used-by (take k rs)
@@ -64,7 +64,7 @@ module _ (reg : List ℕ) (k m : ℕ) (n : m ≡ number-of (read-call reg k)) wh
   number-fits ne = read-bound reg k (refused-is ne) .0 .1
 
   pub not-read : (kind : ℕ) (body : List ℕ) (code : ℕ) → (m ≡ 0 → ⊥) → kind ≡ kind-of (read-call reg k) → body ≡ body-of (read-call reg k) →
-      code ≡ m * number-unit + 0 → Read-to reg k kind 0 (length body) code
+      code ≡ m * number-unit + 0 → ReadTo reg k kind 0 (length body) code
   unfolding body-of
   not-read kind body code ne e b c =
       let r = refused-is ne in
@@ -97,7 +97,7 @@ module _ (reg : List ℕ) (k : ℕ) (P : Present reg k) (at : ℕ) (R : Reached 
   start-fits = let b = reached-bounds reg at k k (P .among) R (omega arith) in omega (arith, b .fits, b .within)
 
   pub read-to : (kind : ℕ) (body : List ℕ) → kind ≡ kind-of (read-call reg k) → body ≡ body-of (read-call reg k) →
-      Read-to reg k kind (at + record-head) (length body) 0
+      ReadTo reg k kind (at + record-head) (length body) 0
   unfolding body-of
   read-to kind body e b =
       let A = P .among in

@@ -27,7 +27,7 @@ code-of (ok x) = 0
 code-of (refused m p) = m * number-unit + p
 
 -- an open
-pub record Opened-to (l : Lent) (old rules new : List ℕ) (code : ℕ) : Type 0 where
+pub record OpenedTo (l : Lent) (old rules new : List ℕ) (code : ℕ) : Type 0 where
   pub answer : code ≡ code-of (open-call l old rules)
   pub register : new ≡ after-open (open-call l old rules) old
 
@@ -37,24 +37,24 @@ added-of (ok true) = 1
 added-of (ok false) = 0
 added-of (refused m p) = 0
 
-pub record Said-to (l : Lent) (old : List ℕ) (st : Statement) (new : List ℕ) (added code : ℕ) : Type 0 where
+pub record SaidTo (l : Lent) (old : List ℕ) (st : Statement) (new : List ℕ) (added code : ℕ) : Type 0 where
   pub answer : code ≡ code-of (say-call l old st)
   pub register : new ≡ after-say (say-call l old st) old st
   pub added-is : added ≡ added-of (say-call l old st)
 
 -- a request
-pub record Requested-to (l : Lent) (old : List ℕ) (k : Ask) (new : List ℕ) (code : ℕ) : Type 0 where
+pub record RequestedTo (l : Lent) (old : List ℕ) (k : Ask) (new : List ℕ) (code : ℕ) : Type 0 where
   pub answer : code ≡ code-of (request-call l old k)
   pub register : new ≡ after-request (request-call l old k) old k
 
 -- an extract: also the output
-pub record Extracted-to (l : Lent) (reg : List ℕ) (k : Ask) (homes surveys new old out : List ℕ) (code : ℕ) : Type 0 where
+pub record ExtractedTo (l : Lent) (reg : List ℕ) (k : Ask) (homes surveys new old out : List ℕ) (code : ℕ) : Type 0 where
   pub answer : code ≡ code-of (extract-call l reg k homes surveys (length old))
   pub register : new ≡ after-request (without-value (extract-call l reg k homes surveys (length old))) reg k
   pub output : out ≡ after-write (extract-call l reg k homes surveys (length old)) old
 
 -- a check that tells where the type stands: the first words of the workspace, none where refused
-pub record Typed-to (o : Result Term) (workspace : List ℕ) (words code : ℕ) : Type 0 where
+pub record TypedTo (o : Result Term) (workspace : List ℕ) (words code : ℕ) : Type 0 where
   pub answer : code ≡ code-of o
   pub words-are : words ≡ length (type-of o)
   pub type : take words workspace ≡ type-of o
@@ -71,7 +71,7 @@ start-of (ok n) = n
 start-of (refused m p) = 0
 
 -- a read that tells where the body stands in the register; kind, start and words are 0 where refused
-pub record Read-to (reg : List ℕ) (k kind start words code : ℕ) : Type 0 where
+pub record ReadTo (reg : List ℕ) (k kind start words code : ℕ) : Type 0 where
   pub answer : code ≡ code-of (read-call reg k)
   pub kind-is : kind ≡ kind-of (read-call reg k)
   pub start-is : start ≡ start-of (body-start reg k)

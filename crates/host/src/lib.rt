@@ -19,7 +19,7 @@ ghost use Rattle.register.specs.Records.{statement-of, ask-of};
 ghost use Rattle.register.specs.Calls.{check-call};
 ghost use Rattle.shared_tests.specs.Shared.{lent-of};
 ghost use Rattle.host.specs.Answers.{number-unit, place-limit, code-of};
-ghost use Rattle.host.specs.Answers.{Opened-to, Said-to, Requested-to, Extracted-to, Typed-to, Read-to};
+ghost use Rattle.host.specs.Answers.{OpenedTo, SaidTo, RequestedTo, ExtractedTo, TypedTo, ReadTo};
 
 // What a refusal's number is multiplied by.
 const NUMBER_UNIT: u64 = 4294967296;
@@ -40,7 +40,7 @@ pub extern "C" fn aura0_open(
     rules: &[u32],
     workspace: &mut [u32],
 ) -> u64
-    ensures { λ r. ⌜ Opened-to (lent-of (now (signature .entry)) n (now (workspace .entry))) (now (register .entry)) (now (rules .entry))
+    ensures { λ r. ⌜ OpenedTo (lent-of (now (signature .entry)) n (now (workspace .entry))) (now (register .entry)) (now (rules .entry))
         (now (register .exit)) r ⌝ }
 {
     let verdict = open(signature, n, register, rules, workspace);
@@ -61,7 +61,7 @@ pub extern "C" fn aura0_say(
     workspace: &mut [u32],
     added: &mut u32,
 ) -> u64
-    ensures { λ r. ⌜ Said-to (lent-of (now (signature .entry)) n (now (workspace .entry))) (now (register .entry))
+    ensures { λ r. ⌜ SaidTo (lent-of (now (signature .entry)) n (now (workspace .entry))) (now (register .entry))
         (statement-of principal (now (proposition .entry))) (now (register .exit)) (now (added .exit)) r ⌝ }
 {
     let said = say(signature, n, register, principal, proposition, workspace);
@@ -93,7 +93,7 @@ pub extern "C" fn aura0_request(
     proof: &[u32],
     workspace: &mut [u32],
 ) -> u64
-    ensures { λ r. ⌜ Requested-to (lent-of (now (signature .entry)) n (now (workspace .entry))) (now (register .entry))
+    ensures { λ r. ⌜ RequestedTo (lent-of (now (signature .entry)) n (now (workspace .entry))) (now (register .entry))
         (ask-of operation extract delivery (now (proof .entry))) (now (register .exit)) r ⌝ }
 {
     let verdict = request(
@@ -128,7 +128,7 @@ pub extern "C" fn aura0_extract(
     output: &mut [u32],
     workspace: &mut [u32],
 ) -> u64
-    ensures { λ r. ⌜ Extracted-to (lent-of (now (signature .entry)) n (now (workspace .entry))) (now (register .entry))
+    ensures { λ r. ⌜ ExtractedTo (lent-of (now (signature .entry)) n (now (workspace .entry))) (now (register .entry))
         (ask-of operation extract delivery (now (proof .entry))) (now (homes .entry)) (now (surveys .entry))
         (now (register .exit)) (now (output .entry)) (now (output .exit)) r ⌝ }
 {
@@ -187,7 +187,7 @@ pub extern "C" fn aura0_check_type(
     workspace: &mut [u32],
     type_words: &mut usize,
 ) -> u64
-    ensures { λ r. ⌜ Typed-to (check-call (lent-of (now (signature .entry)) n (now (workspace .entry)))
+    ensures { λ r. ⌜ TypedTo (check-call (lent-of (now (signature .entry)) n (now (workspace .entry)))
         (now (register .entry)) (now (term .entry))) (now (workspace .exit)) (now («type_words» .exit)) r ⌝ }
 {
     let judged = judge(signature, n, register, term, workspace);
@@ -212,7 +212,7 @@ pub extern "C" fn aura0_read(
     start: &mut usize,
     words: &mut usize,
 ) -> u64
-    ensures { λ r. ⌜ Read-to (now (register .entry)) «record» (now (kind .exit)) (now (start .exit)) (now (words .exit)) r ⌝ }
+    ensures { λ r. ⌜ ReadTo (now (register .entry)) «record» (now (kind .exit)) (now (start .exit)) (now (words .exit)) r ⌝ }
 {
     let mut number = 0;
     let body = read(register, record, kind, &mut number);

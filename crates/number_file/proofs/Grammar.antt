@@ -89,17 +89,17 @@ sound-last this other b (some n) bs ns h q ih e =
     })
 
 -- a digit more
-record Digit-read (f : Option ℕ) (b : ℕ) (k : ℕ → Result (List ℕ)) (ns : List ℕ) : Type 0 where
+record DigitRead (f : Option ℕ) (b : ℕ) (k : ℕ → Result (List ℕ)) (ns : List ℕ) : Type 0 where
   pub value : ℕ
   pub goes-on : k value ≡ ok ns
   pub fits : value ≤ largest
   pub text : digits 10 value ≡ digits-of f ++ (b ∷ [])
 
-digit-read : (f : Option ℕ) (b : ℕ) (k : ℕ → Result (List ℕ)) (ns : List ℕ) → (digit f b >>= k) ≡ ok ns → Digit-read f b k ns
+digit-read : (f : Option ℕ) (b : ℕ) (k : ℕ → Result (List ℕ)) (ns : List ℕ) → (digit f b >>= k) ≡ ok ns → DigitRead f b k ns
 unfolding digit
 digit-read none b k ns e = go (is-digit b) refl e
   where
-    go : (x : Bool) → is-digit b ≡ x → ((require x out-of-form 0 >> ok (b - zero-digit)) >>= k) ≡ ok ns → Digit-read none b k ns
+    go : (x : Bool) → is-digit b ≡ x → ((require x out-of-form 0 >> ok (b - zero-digit)) >>= k) ≡ ok ns → DigitRead none b k ns
     go true q e =
         let (low, high) = both-true (leb zero-digit b) (leb b (zero-digit + 9)) q in
         let l = leb-true zero-digit b low in
@@ -109,7 +109,7 @@ digit-read none b k ns e = go (is-digit b) refl e
 digit-read (some n) b k ns e = go (is-digit b && leb 1 n && leb (10 * n + (b - zero-digit)) largest) refl e
   where
     go : (x : Bool) → (is-digit b && leb 1 n && leb (10 * n + (b - zero-digit)) largest) ≡ x →
-        ((require x out-of-form 0 >> ok (10 * n + (b - zero-digit))) >>= k) ≡ ok ns → Digit-read (some n) b k ns
+        ((require x out-of-form 0 >> ok (10 * n + (b - zero-digit))) >>= k) ≡ ok ns → DigitRead (some n) b k ns
     go true q e =
         let (begun, most) = both-true (is-digit b && leb 1 n) (leb (10 * n + (b - zero-digit)) largest) q in
         let (digit, one) = both-true (is-digit b) (leb 1 n) begun in

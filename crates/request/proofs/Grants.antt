@@ -35,11 +35,11 @@ use Rattle.register.specs.Calls.{Lent, payload, permission, entry, ask-test, si
 use Rattle.register.specs.Succeeds.{Grantable}
 use Rattle.register.proofs.Succeeds.{demand2}
 use Rattle.register.proofs.Words.{unbroken-right}
-use Rattle.shared_tests.specs.Shared.{Prepared-as}
+use Rattle.shared_tests.specs.Shared.{PreparedAs}
 use Rattle.shared_tests.specs.declared.Ready.{Ready}
 use Rattle.shared_tests.specs.declared.Ready.the-variants.{Fault as Unready}
-use Rattle.shared_tests.proofs.OwnTests.{Passed-so, not-prepared, typed-so, Typed-so, typed-refused, Type-found, type-found, type-refused, words-within}
-use Rattle.request.specs.Requested.{Requested-as}
+use Rattle.shared_tests.proofs.OwnTests.{PassedSo, not-prepared, typed-so, TypedSo, typed-refused, TypeFound, type-found, type-refused, words-within}
+use Rattle.request.specs.Requested.{RequestedAs}
 
 -- ---- test 5 of the call's own numbers
 
@@ -106,11 +106,11 @@ module _ (l : Lent) (Σ : List Term) (rs : List Record) (reg : List ℕ) (k : As
 
 -- ---- all tests
 
-module _ (l : Lent) (reg table : List ℕ) (k : Ask) (r : Ready) (P : Prepared-as l reg table r) where
+module _ (l : Lent) (reg table : List ℕ) (k : Ask) (r : Ready) (P : PreparedAs l reg table r) where
   pub request-not-prepared : (m place : ℕ) → r ≡ Unready m place → refused m place ≡ request-call l reg k
   request-not-prepared m place q = sym (not-prepared l reg table r (request-own k) P m place q)
 
-  module _ (count : ℕ) (so : Passed-so l reg table r (request-own k) P count) where
+  module _ (count : ℕ) (so : PassedSo l reg table r (request-own k) P count) where
     -- the tests behind that of the numbers
     abbrev behind : Checked → Result (Unit {0})
     behind c = proved-own k c (view l (outline-of reg) (so .rs) (so .Σ))
@@ -139,10 +139,10 @@ module _ (l : Lent) (reg table : List ℕ) (k : Ask) (r : Ready) (P : Prepared-a
 
       module _ (new : List ℕ) (d : Derivation) (words end : ℕ)
           (J : Judged (typed-term (so .Σ) most-words most-nesting (k .proof)) (length (k .proof)) new d) (f : d ≡ Typed words end) where
-        pub request-type : Type-found (typed-term (so .Σ) most-words most-nesting (k .proof)) new words
+        pub request-type : TypeFound (typed-term (so .Σ) most-words most-nesting (k .proof)) new words
         request-type = type-found _ _ new d words end J f
 
-        pub request-term : Typed-so (so .Σ) (k .proof) (request-type .type)
+        pub request-term : TypedSo (so .Σ) (k .proof) (request-type .type)
         request-term = typed-so (so .Σ) (k .proof) (request-type .type) (request-type .is)
 
         pub words-inside : words ≤ length new
@@ -155,7 +155,7 @@ module _ (l : Lent) (reg table : List ℕ) (k : Ask) (r : Ready) (P : Prepared-a
 -- ---- what a request leaves
 
 module _ (l : Lent) (reg : List ℕ) (k : Ask) (r : Verdict) (e : verdict-answer r ≡ request-call l reg k) where
-  pub request-refused : (m place : ℕ) → r ≡ Fault m place → Requested-as l reg k reg r
+  pub request-refused : (m place : ℕ) → r ≡ Fault m place → RequestedAs l reg k reg r
   request-refused m place q = record { answer = e; register = ap (λ (o : Result (Unit {0})). after-request o reg k) (sym (ap verdict-answer q) ∙ e) }
 
   module _ (q : r ≡ Passed) where
@@ -171,5 +171,5 @@ module _ (l : Lent) (reg : List ℕ) (k : Ask) (r : Verdict) (e : verdict-answer
         room-for reg (entry k) (record { found = G .proof .rs; reads = unbroken-right reg (G .proof .rs) .1 (G .proof .unbroken) })
         (G .proof .ready .not-longer) (G .room)
 
-    pub request-granted : (new : List ℕ) → new ≡ appended reg (entry k) → Requested-as l reg k new Passed
+    pub request-granted : (new : List ℕ) → new ≡ appended reg (entry k) → RequestedAs l reg k new Passed
     request-granted new f = record { answer = sym granted; register = f ∙ sym (ap (λ (o : Result (Unit {0})). after-request o reg k) granted) }

@@ -13,7 +13,7 @@ use Rattle.register.specs.Records.{Record, Ask, register-records}
 use Rattle.register.specs.Calls.{Lent, request-call, after-request}
 
 -- the answer, and the register afterwards
-pub record Requested-as (l : Lent) (old : List ℕ) (k : Ask) (new : List ℕ) (r : Verdict) : Type 0 where
+pub record RequestedAs (l : Lent) (old : List ℕ) (k : Ask) (new : List ℕ) (r : Verdict) : Type 0 where
   pub answer : verdict-answer r ≡ request-call l old k
   pub register : new ≡ after-request (request-call l old k) old k
 

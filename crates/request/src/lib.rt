@@ -37,7 +37,7 @@ ghost use Rattle.rules.specs.Form.{verdict-answer};
 ghost use Rattle.register.specs.Records.{Record, ask-of, register-records};
 ghost use Rattle.register.specs.Calls.{Lent, view, outline-of, ask-test, permission, proved-own, request-call};
 ghost use Rattle.shared_tests.specs.Shared.{lent-of};
-ghost use Rattle.request.specs.Requested.{Requested-as, Provable};
+ghost use Rattle.request.specs.Requested.{RequestedAs, Provable};
 
 // Test 5 of the call's own numbers.
 fn numbers(n: u32, operation: u32, extract: u32, delivery: u32) -> bool
@@ -156,7 +156,7 @@ pub fn request(
     proof: &[u32],
     ws: &mut [u32],
 ) -> Verdict
-    ensures { λ r. ⌜ Requested-as (lent-of (now (sig .entry)) n (now (ws .entry))) (now (register .entry))
+    ensures { λ r. ⌜ RequestedAs (lent-of (now (sig .entry)) n (now (ws .entry))) (now (register .entry))
         (ask-of operation extract delivery (now (proof .entry))) (now (register .exit)) r ⌝ }
 {
     let tested = grantable(

@@ -29,11 +29,11 @@ use Rattle.register.specs.Calls.{Lent, signs-held, view, outline-of, say-entry,
 use Rattle.register.specs.Succeeds.{Adds, added-now}
 use Rattle.register.proofs.Succeeds.{demand2}
 use Rattle.register.proofs.Words.{unbroken-right}
-use Rattle.shared_tests.specs.Shared.{Prepared-as}
+use Rattle.shared_tests.specs.Shared.{PreparedAs}
 use Rattle.shared_tests.specs.declared.Ready.{Ready}
 use Rattle.shared_tests.specs.declared.Ready.the-variants.{Fault as Unready}
-use Rattle.shared_tests.proofs.OwnTests.{Passed-so, not-prepared}
-use Rattle.say.specs.Said.{said-answer, Says-as}
+use Rattle.shared_tests.proofs.OwnTests.{PassedSo, not-prepared}
+use Rattle.say.specs.Said.{said-answer, SaysAs}
 use Rattle.say.specs.declared.Said.{Said}
 use Rattle.say.specs.declared.Said.the-variants.{Added, Held, Fault}
 
@@ -73,7 +73,7 @@ module _ (l : Lent) (Σ : List Term) (rs : List Record) (reg : List ℕ) (st : S
 -- ---- tests 6 to 12
 
 -- a statement that passes them
-pub record Statement-so (Σ : List Term) (st : Statement) : Type 0 where
+pub record StatementSo (Σ : List Term) (st : Statement) : Type 0 where
   pub term : Term
   pub is : check-statement Σ (st .principal) (st .words) ≡ ok term
   pub term-is : Is (st .words) term
@@ -81,7 +81,7 @@ pub record Statement-so (Σ : List Term) (st : Statement) : Type 0 where
 
 pub statement-so : (Σ : List Term) → Signature Σ → (st : Statement) (r : Verdict) → verdict-answer r ≡
     without-value (check-statement Σ (st .principal) (st .words)) →
-    r ≡ Passed → Statement-so Σ st
+    r ≡ Passed → StatementSo Σ st
 statement-so Σ sig st r e q =
     let (t, f) = passed-told (check-statement Σ (st .principal) (st .words)) r e q in
     let W = check-statement-right Σ sig (st .words) (st .principal) t .0 f .term in
@@ -89,11 +89,11 @@ statement-so Σ sig st r e q =
 
 -- ---- all tests
 
-module _ (l : Lent) (reg table : List ℕ) (st : Statement) (r : Ready) (P : Prepared-as l reg table r) where
+module _ (l : Lent) (reg table : List ℕ) (st : Statement) (r : Ready) (P : PreparedAs l reg table r) where
   pub say-not-prepared : (m place : ℕ) → r ≡ Unready m place → refused m place ≡ say-call l reg st
   say-not-prepared m place q = sym (not-prepared l reg table r (say-own st) P m place q)
 
-  module _ (count : ℕ) (so : Passed-so l reg table r (say-own st) P count) where
+  module _ (count : ℕ) (so : PassedSo l reg table r (say-own st) P count) where
     abbrev behind : Result Term → Result Bool
     behind x = x >>= λ q. stated-own st q (view l (outline-of reg) (so .rs) (so .Σ))
 
@@ -116,17 +116,17 @@ module _ (l : Lent) (reg table : List ℕ) (st : Statement) (r : Ready) (P : Pre
         pub say-not-stated : (m place : ℕ) → d ≡ Refusal m place → refused m place ≡ say-call l reg st
         say-not-stated m place q = sym (numbers-right ∙ ap behind (fault-told (check-statement (so .Σ) (st .principal) (st .words)) d m place e q))
 
-        pub say-stated : (S : Statement-so (so .Σ) st) (x : Said) → said-answer x ≡
+        pub say-stated : (S : StatementSo (so .Σ) st) (x : Said) → said-answer x ≡
             stated-own st (S .term) (view l (outline-of reg) (so .rs) (so .Σ)) → said-answer x ≡ say-call l reg st
         say-stated S x g = g ∙ sym (numbers-right ∙ ap behind (S .is))
 
 -- ---- what a say leaves
 
 module _ (l : Lent) (reg : List ℕ) (st : Statement) (r : Said) (e : said-answer r ≡ say-call l reg st) where
-  pub say-refused : (m place : ℕ) → r ≡ Fault m place → Says-as l reg st reg (Fault m place)
+  pub say-refused : (m place : ℕ) → r ≡ Fault m place → SaysAs l reg st reg (Fault m place)
   say-refused m place q = let h = sym (ap said-answer q) ∙ e in record { answer = h; register = ap (λ (o : Result Bool). after-say o reg st) h }
 
-  pub say-held : r ≡ Held → Says-as l reg st reg Held
+  pub say-held : r ≡ Held → SaysAs l reg st reg Held
   say-held q = let h = sym (ap said-answer q) ∙ e in record { answer = h; register = ap (λ (o : Result Bool). after-say o reg st) h }
 
   module _ (q : r ≡ Added) where
@@ -141,5 +141,5 @@ module _ (l : Lent) (reg : List ℕ) (st : Statement) (r : Said) (e : said-answe
         fits-now : {rs : List Record} → Adds rs reg st true → used reg + length (words-of (say-entry st)) ≤ length reg
         fits-now (added-now n f) = f
 
-    pub say-added : (new : List ℕ) → new ≡ appended reg (say-entry st) → Says-as l reg st new Added
+    pub say-added : (new : List ℕ) → new ≡ appended reg (say-entry st) → SaysAs l reg st new Added
     say-added new f = record { answer = sym added; register = f ∙ sym (ap (λ (o : Result Bool). after-say o reg st) added) }

@@ -21,7 +21,7 @@ said-answer Held = ok false
 said-answer (Fault m p) = refused m p
 
 -- the answer, and the register afterwards
-pub record Says-as (l : Lent) (old : List ℕ) (st : Statement) (new : List ℕ) (r : Said) : Type 0 where
+pub record SaysAs (l : Lent) (old : List ℕ) (st : Statement) (new : List ℕ) (r : Said) : Type 0 where
   pub answer : said-answer r ≡ say-call l old st
   pub register : new ≡ after-say (say-call l old st) old st
 

@@ -24,7 +24,7 @@ ghost use Rattle.words.specs.Place.{Is};
 ghost use Rattle.register.specs.Records.{Record, statement-of, register-records};
 ghost use Rattle.register.specs.Calls.{Lent, view, outline-of, stated-own, say-call};
 ghost use Rattle.shared_tests.specs.Shared.{lent-of};
-ghost use Rattle.say.specs.Said.{said-answer, Says-as, Enterable};
+ghost use Rattle.say.specs.Said.{said-answer, SaysAs, Enterable};
 
 // What a say answers: it added a record, or the statement was held, or a test refused.
 pub enum Said {
@@ -108,7 +108,7 @@ pub fn say(
     proposition: &[u32],
     ws: &mut [u32],
 ) -> Said
-    ensures { λ r. ⌜ Says-as (lent-of (now (sig .entry)) n (now (ws .entry))) (now (register .entry))
+    ensures { λ r. ⌜ SaysAs (lent-of (now (sig .entry)) n (now (ws .entry))) (now (register .entry))
         (statement-of principal (now (proposition .entry))) (now (register .exit)) r ⌝ }
 {
     let tested = sayable(sig, n, &register[..], principal, proposition, ws);

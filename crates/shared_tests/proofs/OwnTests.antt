@@ -31,7 +31,7 @@ use Rattle.records.specs.declared.search.Unheld.{Unheld}
 use Rattle.records.specs.declared.search.Unheld.the-variants.{Nowhere, At}
 use Rattle.register.specs.Records.{Record, register-records, held}
 use Rattle.register.specs.Calls.{Lent, Outline, View, view, length-test, shared, outline-of, on-register, signs-held, check-own, check-call}
-use Rattle.shared_tests.specs.Shared.{ready-answer, prepared, constants-found, Lent-so, Prepared-as}
+use Rattle.shared_tests.specs.Shared.{ready-answer, prepared, constants-found, LentSo, PreparedAs}
 use Rattle.shared_tests.proofs.SharedTests.{bind-bind}
 use Rattle.shared_tests.specs.declared.Ready.{Ready}
 use Rattle.shared_tests.specs.declared.Ready.the-variants.{Constants, Fault}
@@ -56,22 +56,22 @@ own-tests l o records own =
 pub not-ready : (o : Result View) (r : Ready) → ready-answer r ≡ constants-found o → (m p : ℕ) → r ≡ Fault m p → o ≡ refused m p
 not-ready o r e m p q = not-mapped (λ v. length (v .Σ)) o (sym e ∙ ap ready-answer q)
 
-module _ {Y : Type 0} (l : Lent) (reg table : List ℕ) (r : Ready) (own : View → Result Y) (P : Prepared-as l reg table r) where
+module _ {Y : Type 0} (l : Lent) (reg table : List ℕ) (r : Ready) (own : View → Result Y) (P : PreparedAs l reg table r) where
   -- the shared tests refused
   pub not-prepared : (m p : ℕ) → r ≡ Fault m p → on-register l reg own ≡ refused m p
   not-prepared m p q = own-tests l (outline-of reg) (register-records reg) own ∙ stop own (not-ready (prepared l reg) r (P .answer) m p q)
 
   -- or found a register that is not broken and a signature that is accepted
-  pub record Passed-so (count : ℕ) : Type 0 where
+  pub record PassedSo (count : ℕ) : Type 0 where
     pub rs : List Record
     pub reads : register-records reg ≡ ok rs
     pub Σ : List Term
     pub counted : count ≡ length Σ
     pub constants : Constants-of (l .sig) (take count table) Σ
-    pub lent-so : Lent-so l (outline-of reg) rs table (view l (outline-of reg) rs Σ)
+    pub lent-so : LentSo l (outline-of reg) rs table (view l (outline-of reg) rs Σ)
     pub is : on-register l reg own ≡ own (view l (outline-of reg) rs Σ)
 
-  pub passed-so : (count : ℕ) → r ≡ Constants count → Passed-so count
+  pub passed-so : (count : ℕ) → r ≡ Constants count → PassedSo count
   passed-so count q = bound (prepared l reg) _ (sym (P .answer) ∙ ap ready-answer q) λ v e n.
       let R = P .passed v e in
       let S = R .lent-so in
@@ -82,7 +82,7 @@ module _ {Y : Type 0} (l : Lent) (reg table : List ℕ) (r : Ready) (own : View 
         Σ = v .Σ;
         counted = c;
         constants = subst (λ (i : ℕ). Constants-of (l .sig) (take i table) (v .Σ)) (sym c) (S .constants);
-        lent-so = subst (Lent-so l (outline-of reg) (R .rs) table) (S .is) S;
+        lent-so = subst (LentSo l (outline-of reg) (R .rs) table) (S .is) S;
         is = own-tests l (outline-of reg) (register-records reg) own ∙ bind-is own e (ap own (S .is));
       }
 
@@ -95,16 +95,16 @@ with-type t x = x >>= λ A. ok (record { term = t; type = A })
 abbrev with-types : List Term → Result Term → Result Checked
 with-types Σ x = x >>= λ t. with-type t (infer Σ [] 0 t)
 
-pub record Typed-so (Σ : List Term) (ws : List ℕ) (A : Term) : Type 0 where
+pub record TypedSo (Σ : List Term) (ws : List ℕ) (A : Term) : Type 0 where
   pub term : Term
   pub is : check-term Σ ws ≡ ok (record { term = term; type = A })
   pub term-is : Is ws term
   pub short : length ws ≤ most-words
 
-pub typed-so : (Σ : List Term) (ws : List ℕ) (A : Term) → typed-term Σ most-words most-nesting ws ≡ ok A → Typed-so Σ ws A
+pub typed-so : (Σ : List Term) (ws : List ℕ) (A : Term) → typed-term Σ most-words most-nesting ws ≡ ok A → TypedSo Σ ws A
 typed-so Σ ws A e = go (term-of most-words most-nesting ws) refl e
   where
-    go : (x : Result Term) → term-of most-words most-nesting ws ≡ x → (x >>= λ t. infer Σ [] 0 t) ≡ ok A → Typed-so Σ ws A
+    go : (x : Result Term) → term-of most-words most-nesting ws ≡ x → (x >>= λ t. infer Σ [] 0 t) ≡ ok A → TypedSo Σ ws A
     go (ok t) f g =
         let W = term-of-right most-words most-nesting ws t .0 f in
         record { term = t; is = ap (with-types Σ) f ∙ ap (with-type t) g; term-is = record { plain = W .plain; words = W .words }; short = W .not-more }
@@ -122,13 +122,13 @@ typed-refused Σ ws m p e = go (term-of most-words most-nesting ws) e
     go (refused m′ p′) g = cc
 
 -- what the answer of tests 6 to 12 tells
-pub record Type-found (o : Result Term) (new : List ℕ) (words : ℕ) : Type 0 where
+pub record TypeFound (o : Result Term) (new : List ℕ) (words : ℕ) : Type 0 where
   pub type : Term
   pub is : o ≡ ok type
   pub words-are : words ≡ size type
   pub front : TypeAt new 0 type
 
-pub type-found : (o : Result Term) (end : ℕ) (new : List ℕ) (r : Derivation) (words e : ℕ) → Judged o end new r → r ≡ Typed words e → Type-found o new words
+pub type-found : (o : Result Term) (end : ℕ) (new : List ℕ) (r : Derivation) (words e : ℕ) → Judged o end new r → r ≡ Typed words e → TypeFound o new words
 type-found o end new r words e J q = typed-by o end (J .answer) words e q λ A i w l.
     record { type = A; is = i; words-are = w; front = subst (λ (x : Result Term). Front x new) i (J .front) }
 

@@ -26,8 +26,8 @@ use Rattle.records.specs.declared.walk.Contents.the-variants.{Broken, Whole}
 use Rattle.records.proofs.Walks.{contents-broken, contents-whole}
 use Rattle.register.specs.Records.{Record, header, register-records}
 use Rattle.register.specs.Calls.{Lent, Outline, View, view, length-test, shared, outline-of, fresh-outline}
-use Rattle.shared_tests.specs.Shared.{lengths-test, signed, ready-answer, Signed-as, constants-found, prepared}
-use Rattle.shared_tests.specs.Shared.{prepared-to-open, Lent-so, Prepared-as, Opened-as}
+use Rattle.shared_tests.specs.Shared.{lengths-test, signed, ready-answer, SignedAs, constants-found, prepared}
+use Rattle.shared_tests.specs.Shared.{prepared-to-open, LentSo, PreparedAs, OpenedAs}
 use Rattle.shared_tests.specs.declared.Ready.{Ready}
 use Rattle.shared_tests.specs.declared.Ready.the-variants.{Constants, Fault}
 
@@ -91,11 +91,11 @@ lengths-refused w r number e n = go (leb least-workspace w) (leb header r && leb
 -- ---- tests 4 and 5
 
 -- they refuse
-signs-refused : (sig table : List ℕ) (n m p : ℕ) → signed sig n ≡ refused m p → Signed-as sig n table (Fault m p)
+signs-refused : (sig table : List ℕ) (n m p : ℕ) → signed sig n ≡ refused m p → SignedAs sig n table (Fault m p)
 signs-refused sig table n m p e = record { answer = sym (stop _ e); constants = λ Σ f. absurd (not-ok (sym e ∙ f)) }
 
 pub signature-bad : (sig table : List ℕ) (n p : ℕ) (r : Listed) → Read-as (signature sig) sig table r → r ≡ Bad p →
-    Signed-as sig n table (Fault bad-signature p)
+    SignedAs sig n table (Fault bad-signature p)
 signature-bad sig table n p r R q = signs-refused sig table n bad-signature p (stop _ (list-refused sig table p r R q))
 
 module _ (sig table : List ℕ) (n count : ℕ) (C : Constants-read sig table count) where
@@ -103,7 +103,7 @@ module _ (sig table : List ℕ) (n count : ℕ) (C : Constants-read sig table co
   signed-is b e = ap (λ x. x >>= λ Σ. require (operations-test Σ n) bad-number 0 >> ok Σ) (C .is) ∙ ap
       (λ (x : Bool). require x bad-number 0 >> ok (C .Σ)) (sym e)
 
-  pub operations-fit : (b : Bool) → b ≡ operations-test (C .Σ) n → b ≡ true → Signed-as sig n table (Constants count)
+  pub operations-fit : (b : Bool) → b ≡ operations-test (C .Σ) n → b ≡ true → SignedAs sig n table (Constants count)
   operations-fit b e q =
       let h : signed sig n ≡ ok (C .Σ) = signed-is true (sym q ∙ e) in
       let c = subst (λ (i : ℕ). Constants-of sig (take i table) (C .Σ)) (C .counted) (C .constants-are) in
@@ -113,7 +113,7 @@ module _ (sig table : List ℕ) (n count : ℕ) (C : Constants-read sig table co
             subst (λ (S : List Term). Constants-of sig (take (length S) table) S) (ok-inj (sym h ∙ f)) c;
       }
 
-  pub operations-unfit : (b : Bool) → b ≡ operations-test (C .Σ) n → b ≡ false → Signed-as sig n table (Fault bad-number 0)
+  pub operations-unfit : (b : Bool) → b ≡ operations-test (C .Σ) n → b ≡ false → SignedAs sig n table (Fault bad-number 0)
   operations-unfit b e q = signs-refused sig table n bad-number 0 (signed-is false (sym q ∙ e))
 
 -- ---- all of them, before a call's own tests
@@ -178,13 +178,13 @@ bind-bind (ok x) f g = refl
 bind-bind (refused m p) f g = refl
 
 -- the shared tests found what the table and the answer say
-module _ (l : Lent) (t : Outline) (rs : List Record) (table : List ℕ) (r : Ready) (L : Lengths (l .workspace) (t .size)) (S : Signed-as (l .sig) (l .n) table r)
+module _ (l : Lent) (t : Outline) (rs : List Record) (table : List ℕ) (r : Ready) (L : Lengths (l .workspace) (t .size)) (S : SignedAs (l .sig) (l .n) table r)
     (o : Result View) (h : o ≡ (signed (l .sig) (l .n) >>= λ Σ. ok (view l t rs Σ))) where
   lent-answer : ready-answer r ≡ constants-found o
   lent-answer = S .answer ∙ sym (ap constants-found h ∙ bind-bind (signed (l .sig) (l .n)) _ _)
 
-  lent-so : (v : View) → o ≡ ok v → Lent-so l t rs table v
-  lent-so v e = bound (signed (l .sig) (l .n)) _ (sym h ∙ e) λ Σ s w. subst (Lent-so l t rs table) (ok-inj w) (record {
+  lent-so : (v : View) → o ≡ ok v → LentSo l t rs table v
+  lent-so v e = bound (signed (l .sig) (l .n)) _ (sym h ∙ e) λ Σ s w. subst (LentSo l t rs table) (ok-inj w) (record {
     is = refl;
     constants = S .constants Σ s;
     workspace = L .workspace-fits;
@@ -194,12 +194,12 @@ module _ (l : Lent) (t : Outline) (rs : List Record) (table : List ℕ) (r : Rea
   })
 
 module _ (l : Lent) (len : ℕ) (table : List ℕ) where
-  pub opened-refused : (number : ℕ) → number ≡ number-of (lengths-test (l .workspace) len) → (number ≡ 0 → ⊥) → Opened-as l len table (Fault number 0)
+  pub opened-refused : (number : ℕ) → number ≡ number-of (lengths-test (l .workspace) len) → (number ≡ 0 → ⊥) → OpenedAs l len table (Fault number 0)
   opened-refused number e n =
       let h = shared-refused l (fresh-outline len) ok (ok []) (lengths-refused (l .workspace) len number e n) in
       record { answer = sym (stop _ h); passed = λ v f. absurd (not-ok (sym h ∙ f)) }
 
-  pub opened-as : (r : Ready) → Lengths (l .workspace) len → Signed-as (l .sig) (l .n) table r → Opened-as l len table r
+  pub opened-as : (r : Ready) → Lengths (l .workspace) len → SignedAs (l .sig) (l .n) table r → OpenedAs l len table r
   opened-as r L S =
       let h = shared-signed l (fresh-outline len) ok (ok []) [] (L .passed) refl in
       record {
@@ -209,19 +209,19 @@ module _ (l : Lent) (len : ℕ) (table : List ℕ) where
       }
 
 module _ (l : Lent) (reg table : List ℕ) where
-  unprepared : (m p : ℕ) → prepared l reg ≡ refused m p → Prepared-as l reg table (Fault m p)
+  unprepared : (m p : ℕ) → prepared l reg ≡ refused m p → PreparedAs l reg table (Fault m p)
   unprepared m p h = record { answer = sym (stop _ h); passed = λ v f. absurd (not-ok (sym h ∙ f)) }
 
   pub prepared-refused : (number : ℕ) → number ≡ number-of (lengths-test (l .workspace) (length reg)) → (number ≡ 0 → ⊥) →
-      Prepared-as l reg table (Fault number 0)
+      PreparedAs l reg table (Fault number 0)
   prepared-refused number e n = unprepared number 0
       (shared-refused l (outline-of reg) ok (register-records reg) (lengths-refused (l .workspace) (length reg) number e n))
 
   module _ (c : Contents) (L : Lengths (l .workspace) (length reg)) (e : contents-answer c ≡ record-count reg) where
-    pub prepared-broken : c ≡ Broken → Prepared-as l reg table (Fault register-broken 0)
+    pub prepared-broken : c ≡ Broken → PreparedAs l reg table (Fault register-broken 0)
     prepared-broken q = unprepared register-broken 0 (shared-broken l (outline-of reg) ok (register-records reg) (L .passed) (contents-broken reg c e q))
 
-    pub prepared-as : (k : ℕ) (r : Ready) → c ≡ Whole k → Signed-as (l .sig) (l .n) table r → Prepared-as l reg table r
+    pub prepared-as : (k : ℕ) (r : Ready) → c ≡ Whole k → SignedAs (l .sig) (l .n) table r → PreparedAs l reg table r
     prepared-as k r q S =
         let (rs, f, _) = contents-whole reg k c e q in
         let h = shared-signed l (outline-of reg) ok (register-records reg) rs (L .passed) f in

@@ -33,7 +33,7 @@ ready-answer (Constants n) = ok n
 ready-answer (Fault m p) = refused m p
 
 -- the answer; and where the signature is accepted, the first words of the table say where its constants' types stand
-pub record Signed-as (sig : List ℕ) (n : ℕ) (table : List ℕ) (r : Ready) : Type 0 where
+pub record SignedAs (sig : List ℕ) (n : ℕ) (table : List ℕ) (r : Ready) : Type 0 where
   pub answer : ready-answer r ≡ (signed sig n >>= λ Σ. ok (length Σ))
   pub constants : (Σ : List Term) → signed sig n ≡ ok Σ → Constants-of sig (take (length Σ) table) Σ
 
@@ -49,7 +49,7 @@ abbrev pub constants-found : Result View → Result ℕ
 constants-found o = o >>= λ v. ok (length (v .Σ))
 
 -- the tests passed
-pub record Lent-so (l : Lent) (o : Outline) (rs : List Record) (table : List ℕ) (v : View) : Type 0 where
+pub record LentSo (l : Lent) (o : Outline) (rs : List Record) (table : List ℕ) (v : View) : Type 0 where
   pub is : v ≡ view l o rs (v .Σ)
   pub constants : Constants-of (l .sig) (take (length (v .Σ)) table) (v .Σ)
   pub workspace : least-workspace ≤ l .workspace
@@ -58,16 +58,16 @@ pub record Lent-so (l : Lent) (o : Outline) (rs : List Record) (table : List ℕ
   pub operations : l .n ≤ most-operations
 
 -- on a register
-pub record Register-so (l : Lent) (reg table : List ℕ) (v : View) : Type 0 where
+pub record RegisterSo (l : Lent) (reg table : List ℕ) (v : View) : Type 0 where
   pub rs : List Record
   pub reads : register-records reg ≡ ok rs
-  pub lent-so : Lent-so l (outline-of reg) rs table v
+  pub lent-so : LentSo l (outline-of reg) rs table v
 
 -- the answer, and what is so where the tests passed
-pub record Prepared-as (l : Lent) (reg table : List ℕ) (r : Ready) : Type 0 where
+pub record PreparedAs (l : Lent) (reg table : List ℕ) (r : Ready) : Type 0 where
   pub answer : ready-answer r ≡ constants-found (prepared l reg)
-  pub passed : (v : View) → prepared l reg ≡ ok v → Register-so l reg table v
+  pub passed : (v : View) → prepared l reg ≡ ok v → RegisterSo l reg table v
 
-pub record Opened-as (l : Lent) (len : ℕ) (table : List ℕ) (r : Ready) : Type 0 where
+pub record OpenedAs (l : Lent) (len : ℕ) (table : List ℕ) (r : Ready) : Type 0 where
   pub answer : ready-answer r ≡ constants-found (prepared-to-open l len)
-  pub passed : (v : View) → prepared-to-open l len ≡ ok v → Lent-so l (fresh-outline len) [] table v
+  pub passed : (v : View) → prepared-to-open l len ≡ ok v → LentSo l (fresh-outline len) [] table v

@@ -17,7 +17,7 @@ ghost use lib.ListN.{length};
 ghost use Rattle.logic.specs.Limits.{most-constants};
 ghost use Rattle.signature.specs.Listing.{Readable};
 ghost use Rattle.logic.specs.Result.{number-of};
-ghost use Rattle.shared_tests.specs.Shared.{lengths-test, lent-of, Signed-as, Prepared-as, Opened-as};
+ghost use Rattle.shared_tests.specs.Shared.{lengths-test, lent-of, SignedAs, PreparedAs, OpenedAs};
 
 // How many constants the signature has; or a test refuses.
 pub enum Ready {
@@ -28,7 +28,7 @@ pub enum Ready {
 // Tests 4 and 5.
 fn accept(sig: &[u32], n: u32, table: &mut [u32], ws: &mut [u32]) -> Ready
     requires { ⌜ Readable (now table) (now ws) ⌝ }
-    ensures { λ r. ⌜ Signed-as (now (sig .entry)) n (now (table .exit)) r ⌝ }
+    ensures { λ r. ⌜ SignedAs (now (sig .entry)) n (now (table .exit)) r ⌝ }
 {
     let listed = read_signature(sig, table, ws);
     match listed {
@@ -69,7 +69,7 @@ fn lengths(workspace: usize, register: usize) -> u32
 // Tests 1, 2, 4 and 5, for open.
 pub fn lend(sig: &[u32], n: u32, register: usize, table: &mut [u32], ws: &mut [u32]) -> Ready
     requires { ⌜ length (now table) ≡ most-constants ⌝ }
-    ensures { λ r. ⌜ Opened-as (lent-of (now (sig .entry)) n (now (ws .entry))) register (now (table .exit)) r ⌝ }
+    ensures { λ r. ⌜ OpenedAs (lent-of (now (sig .entry)) n (now (ws .entry))) register (now (table .exit)) r ⌝ }
 {
     let number = lengths(ws.len(), register);
     if number != 0 {
@@ -81,7 +81,7 @@ pub fn lend(sig: &[u32], n: u32, register: usize, table: &mut [u32], ws: &mut [u
 // Tests 1 to 5, for the other calls.
 pub fn prepare(sig: &[u32], n: u32, register: &[u32], table: &mut [u32], ws: &mut [u32]) -> Ready
     requires { ⌜ length (now table) ≡ most-constants ⌝ }
-    ensures { λ r. ⌜ Prepared-as (lent-of (now (sig .entry)) n (now (ws .entry))) (now (register .entry)) (now (table .exit)) r ⌝ }
+    ensures { λ r. ⌜ PreparedAs (lent-of (now (sig .entry)) n (now (ws .entry))) (now (register .entry)) (now (table .exit)) r ⌝ }
 {
     let number = lengths(ws.len(), register.len());
     if number != 0 {

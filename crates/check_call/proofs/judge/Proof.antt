@@ -4,7 +4,7 @@ use lib.Seq.{length-take-le}
 use Rattle.register.specs.Calls.{Lent, check-own}
 use Rattle.records.proofs.Sought.{holds-register, header-there}
 use Rattle.shared_tests.specs.Shared.{lent-of}
-use Rattle.shared_tests.proofs.OwnTests.{Passed-so, passed-so, Typed-so, table-within}
+use Rattle.shared_tests.proofs.OwnTests.{PassedSo, passed-so, TypedSo, table-within}
 use Rattle.check_call.proofs.Checks.{check-not-prepared, check-not-typed, check-type, check-term-found, check-unheld, check-held}
 use native.Mathlib.Omega.{arith}
 use borrow.Author.Needs.{needs}
@@ -40,7 +40,7 @@ before-first-unheld c = c .before .before
 passed : (c : tie.After-ready2) →
     let at-prepare = before-ready2 c in
     let at-start = before-table (before-prepare at-prepare) in
-    Passed-so (lent-here at-start) (at-start .args .register .now) (at-prepare .prepare .last .1 .1 .1 .0) (at-prepare .prepare .result)
+    PassedSo (lent-here at-start) (at-start .args .register .now) (at-prepare .prepare .last .1 .1 .1 .0) (at-prepare .prepare .result)
     (check-own (at-start .args .term .now)) (at-prepare .prepare .ensures) (c .ready2 .given .0 .0)
 passed c =
     let at-prepare = before-ready2 c in
@@ -55,7 +55,7 @@ typed : (c : tie.After-enum-told) →
     let at-prepare = before-ready2 at-ready2 in
     let at-start = before-table (before-prepare at-prepare) in
     let a = at-start .args in
-    Typed-so (passed at-ready2 .Σ) (a .term .now)
+    TypedSo (passed at-ready2 .Σ) (a .term .now)
     (check-type (lent-here at-start) (a .register .now) (at-prepare .prepare .last .1 .1 .1 .0) (a .term .now) (at-prepare .prepare .result)
     (at-prepare .prepare .ensures) (at-ready2 .ready2 .given .0 .0) (passed at-ready2) (at-check-term .check-term .last .1 .1 .1 .1 .1 .0)
     (at-check-term .check-term .result) _ _ (at-check-term .check-term .ensures (passed at-ready2 .Σ) (passed at-ready2 .constants))

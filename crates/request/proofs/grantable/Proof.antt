@@ -5,7 +5,7 @@ use borrow.Author.Tests.{not-true, not-false}
 use Rattle.register.specs.Records.{Ask, ask-of}
 use Rattle.register.specs.Calls.{Lent, request-own}
 use Rattle.shared_tests.specs.Shared.{lent-of}
-use Rattle.shared_tests.proofs.OwnTests.{Passed-so, passed-so, table-within}
+use Rattle.shared_tests.proofs.OwnTests.{PassedSo, passed-so, table-within}
 use Rattle.request.proofs.Grants.{request-not-prepared, bad-numbers, in-range-numbers, request-not-typed}
 use Rattle.request.proofs.Grants.{request-type, request-term, words-inside, proved}
 use native.Mathlib.Omega.{arith}
@@ -55,7 +55,7 @@ passed : (c : tie.After-ready2) →
     let at-prepare = before-ready2 c in
     let at-start = before-table (before-prepare at-prepare) in
     let a = at-start .args in
-    Passed-so (lent-here at-start) (a .register .now) (at-prepare .prepare .last .1 .1 .1 .0) (at-prepare .prepare .result)
+    PassedSo (lent-here at-start) (a .register .now) (at-prepare .prepare .last .1 .1 .1 .0) (at-prepare .prepare .result)
     (request-own (asked at-start)) (at-prepare .prepare .ensures) (c .ready2 .given .0 .0)
 passed c =
     let at-prepare = before-ready2 c in

@@ -4,7 +4,7 @@ use lib.Seq.{length-take-le}
 use Rattle.register.specs.Records.{Statement, statement-of}
 use Rattle.register.specs.Calls.{Lent, say-own}
 use Rattle.shared_tests.specs.Shared.{lent-of}
-use Rattle.shared_tests.proofs.OwnTests.{Passed-so, passed-so, table-within}
+use Rattle.shared_tests.proofs.OwnTests.{PassedSo, passed-so, table-within}
 use Rattle.say.proofs.Statements.{statement-so, say-not-prepared, principal-over, say-by-desk, say-not-stated, say-stated}
 use native.Mathlib.Omega.{arith}
 use borrow.Author.Needs.{needs}
@@ -47,7 +47,7 @@ passed : (c : tie.After-ready2) →
     let at-prepare = before-ready2 c in
     let at-start = before-table (before-prepare at-prepare) in
     let a = at-start .args in
-    Passed-so (lent-here at-start) (a .register .now) (at-prepare .prepare .last .1 .1 .1 .0) (at-prepare .prepare .result)
+    PassedSo (lent-here at-start) (a .register .now) (at-prepare .prepare .last .1 .1 .1 .0) (at-prepare .prepare .result)
     (say-own (said at-start)) (at-prepare .prepare .ensures) (c .ready2 .given .0 .0)
 passed c =
     let at-prepare = before-ready2 c in
