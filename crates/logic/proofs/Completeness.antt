@@ -1,4 +1,5 @@
--- Completeness: what a measured derivation gives, the check `infer` gives. With soundness, the check gives a type exactly if a measured derivation does.
+-- Completeness: what a measured derivation gives, the check `infer` gives. With soundness, the check gives a
+-- type exactly if a measured derivation does.
 use Prim.Native.Nat.{ℕ}
 use mathlib.Core.Path.{_≡_, refl}
 use mathlib.Core.Logic.{_↔_}
@@ -6,7 +7,8 @@ use mathlib.Core.List.{List}
 use borrow.Author.Tests.{eq-eqb}
 use Rattle.logic.specs.Result.{ok}
 use Rattle.logic.specs.Term.{Term}
-use Rattle.logic.specs.Typing.{of-prop, Has, has-prop, has-type, has-string, has-prin, has-text, has-name, has-var, has-const, has-says, has-pi, has-lam, has-app, has-sign, has-ret, has-bind}
+use Rattle.logic.specs.Typing.{of-prop, Has, has-prop, has-type, has-string, has-prin, has-text, has-name, has-var, has-const, has-says}
+use Rattle.logic.specs.Typing.{has-pi, has-lam, has-app, has-sign, has-ret, has-bind}
 use Rattle.logic.specs.Scope.{Signature, Context, no-binder, binder}
 use Rattle.logic.specs.Infer.{measured, infer}
 use Rattle.logic.specs.Measured.{Measured}

@@ -28,7 +28,8 @@ parts-some o (var n) e = absurd (clash (cc))
 parts-some o (sign n q) e = absurd (clash (cc))
 parts-some o (node h a b) {p} e = go (Op-discrete o h) e
   where
-    go : (d : Dec (o ≡ h)) → elim d as (λ u. Option Parts) [ yes _ ↦ some (record { left = a; right = b }) | no _ ↦ none ] ≡ some p → node h a b ≡ node o (p .left) (p .right)
+    go : (d : Dec (o ≡ h)) → elim d as (λ u. Option Parts) [ yes _ ↦ some (record { left = a; right = b }) | no _ ↦ none ] ≡ some p
+        → node h a b ≡ node o (p .left) (p .right)
     go (yes q) e = let f = some-inj e in cc (ap (λ p. p .left) f, ap (λ p. p .right) f)
     go (no n) e = absurd (clash (cc))
 

@@ -10,11 +10,14 @@ use Rattle.logic.specs.Term.{Term, size, encode}
 use Rattle.logic.specs.Move.{shift, fillAt, occurs}
 use Rattle.logic.specs.Scope.{Signature, Context}
 use Rattle.logic.specs.Faults.{Faults, unbound, long-var, unknown, long-const, in-signed, bad-signed, long-sign, in-sayer, bad-sayer, in-said, bad-said}
-use Rattle.logic.specs.Faults.{in-pi-domain, bad-pi-domain, in-pi-body, bad-pi-body, in-lam-domain, bad-lam-domain, in-lam-body, bad-lam-body, long-lam, in-function, bad-function, in-argument, bad-argument, long-app, in-ret-principal, bad-ret-principal, in-ret-proof, bad-ret-proof, long-ret, in-bound, bad-bound, in-rest, bad-rest, escapes, long-bind}
+use Rattle.logic.specs.Faults.{in-pi-domain, bad-pi-domain, in-pi-body, bad-pi-body, in-lam-domain, bad-lam-domain, in-lam-body, bad-lam-body}
+use Rattle.logic.specs.Faults.{long-lam, in-function, bad-function, in-argument, bad-argument, long-app, in-ret-principal, bad-ret-principal}
+use Rattle.logic.specs.Faults.{in-ret-proof, bad-ret-proof, long-ret, in-bound, bad-bound, in-rest, bad-rest, escapes, long-bind}
 use Rattle.logic.specs.Infer.{infer, same-term, conclusion}
 use Rattle.logic.specs.Reading.{Plain, read, too-deep}
 use Rattle.logic.specs.SignatureList.{constants}
-use Rattle.logic.specs.SeparateRefusals.{Separate, function, argument, escape, Subterm, whole, in-sign, in-first, in-says, in-pi, in-lam, in-app, in-ret, in-bind, SeparateAt, SeparateRefusals, SeparateExamples}
+use Rattle.logic.specs.SeparateRefusals.{Separate, function, argument, escape, Subterm, whole, in-sign, in-first, in-says, in-pi, in-lam}
+use Rattle.logic.specs.SeparateRefusals.{in-app, in-ret, in-bind, SeparateAt, SeparateRefusals, SeparateExamples}
 use Rattle.logic.proofs.Completeness.{infer-right}
 use Rattle.logic.proofs.Faults.{refuses, infer-refused}
 
@@ -24,7 +27,8 @@ Stands Σ Γ t m i = (m ≤ 12) ⊎ ((Δ : List Term) × (s : Term) × Subterm �
 
 module _ (Σ : List Term) where
   -- from a child to its node
-  deeper : {Γ Γ′ : List Term} {t a : Term} {m i j : ℕ} → ((Δ : List Term) (s : Term) → Subterm Σ Γ′ a i Δ s → Subterm Σ Γ t j Δ s) → Stands Σ Γ′ a m i → Stands Σ Γ t m j
+  deeper : {Γ Γ′ : List Term} {t a : Term} {m i j : ℕ} → ((Δ : List Term) (s : Term) → Subterm Σ Γ′ a i Δ s → Subterm Σ Γ t j Δ s) → Stands Σ Γ′ a m i
+      → Stands Σ Γ t m j
   deeper f (inl l) = inl l
   deeper f (inr (Δ, s, u, b)) = inr (Δ, s, f Δ s u, b)
 

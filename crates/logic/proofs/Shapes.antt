@@ -6,9 +6,11 @@ use mathlib.Core.Bool.{Bool, true, false}
 use lib.Dec.{eqb}
 use borrow.Author.Tests.{eqb-true, eqb-false, ne-eqb}
 use Rattle.logic.specs.Limits.{payloads}
-use Rattle.logic.specs.Tags.{tag-prop, tag-type, tag-string, tag-prin, tag-variable, tag-constant, tag-says, tag-pi, tag-lam, tag-app, tag-text, tag-name, tag-sign, tag-ret, tag-bind, tag-kindP, tag-kindT}
+use Rattle.logic.specs.Tags.{tag-prop, tag-type, tag-string, tag-prin, tag-variable, tag-constant, tag-says, tag-pi, tag-lam, tag-app}
+use Rattle.logic.specs.Tags.{tag-text, tag-name, tag-sign, tag-ret, tag-bind, tag-kindP, tag-kindT}
 use Rattle.logic.specs.Result.{pick}
-use Rattle.logic.specs.Term.{propA, typeA, stringA, prinA, kindPA, kindTA, constA, textA, nameA, Op, saysO, piO, lamO, appO, retO, bindO, binds, Term, atom, var, sign, node, word, tag-of, payload-of}
+use Rattle.logic.specs.Term.{propA, typeA, stringA, prinA, kindPA, kindTA, constA, textA, nameA, Op, saysO, piO, lamO, appO, retO, bindO}
+use Rattle.logic.specs.Term.{binds, Term, atom, var, sign, node, word, tag-of, payload-of}
 use Rattle.logic.specs.Reading.{Shape, leaf, signed, branch, no-term, shape-of-tag, shape, Plain}
 use Rattle.logic.specs.Kind.{kind-atom, kind-variable, kind-sign, kind-node, kind-binder, kind-none, leafKind, opKind, kindOf, childrenOf, bindsOf}
 use Rattle.logic.proofs.Basics.{clash}

@@ -1,4 +1,5 @@
--- A signature list is accepted exactly if it lists constants as specs/SignatureList says, and then it is a well-formed signature.
+-- A signature list is accepted exactly if it lists constants as specs/SignatureList
+-- says, and then it is a well-formed signature.
 use Prim.Native.Nat.{ℕ, zero, suc, _≤_, _<_}
 use mathlib.Core.Path.{_≡_, refl, ap, subst, subst₂}
 use mathlib.Core.Logic.{_↔_}
@@ -58,8 +59,16 @@ listed (suc k) at Σ (n ∷ ws) {Σ′} sig e =
     let (few, some-word) = both-true (ltb (length Σ) most-constants) (leb 1 n) h₂ in
     let long = length-take-le n ws (leb-true n (length ws) fits) in
     let h = constant-right Σ sig (take n ws) A .0 (at-constant-ok at (constant Σ (take n ws)) c) in
-    let w : WordsOf most-constant-words most-nesting (take n ws) A = record { plain = h .term .plain; words = h .term .words; some-word = h .term .some-word; not-more = rw long (leb-true n most-constant-words short); nested = h .term .nested } in
-    rw (long, take-append-drop n ws) at (one-more (ltb-true (length Σ) most-constants few) w (h .derivation) (h .measured) (listed k _ (Σ ++ (A ∷ [])) (drop n ws) (extend sig (h .derivation)) e₂))
+    let w : WordsOf most-constant-words most-nesting (take n ws) A = record {
+      plain = h .term .plain;
+      words = h .term .words;
+      some-word = h .term .some-word;
+      not-more = rw long (leb-true n most-constant-words short);
+      nested = h
+          .term .nested;
+    } in
+    rw (long, take-append-drop n ws) at (one-more (ltb-true (length Σ) most-constants few) w (h .derivation) (h .measured)
+    (listed k _ (Σ ++ (A ∷ [])) (drop n ws) (extend sig (h .derivation)) e₂))
 
 accepts : {Σ Σ′ : List Term} {ws : List ℕ} (k at : ℕ) → Signature Σ → length ws < k → Lists Σ ws Σ′ → constants k at Σ ws ≡ ok Σ′
 unfolding constants
@@ -67,10 +76,21 @@ accepts zero at sig l no-more = absurd (omega arith)
 accepts (suc k) at sig l no-more = refl
 accepts zero at sig l (one-more f w D m ls) = absurd (omega arith)
 accepts {Σ} (suc k) at sig l (one-more {q} {ws} {A} f w D m ls) =
-    let h : Passes Σ q A KindP = record { term = record { plain = w .plain; words = w .words; some-word = w .some-word; not-more = omega (arith, w .not-more); nested = w .nested }; derivation = D; measured = m } in
+    let h : Passes Σ q A KindP = record {
+      term = record {
+        plain = w .plain;
+        words = w .words;
+        some-word = w .some-word;
+        not-more = omega (arith, w .not-more);
+        nested = w .nested;
+      };
+      derivation = D;
+      measured = m;
+    } in
     let fits : length q ≤ length (q ++ ws) = simp length-append (omega arith) in
     rw (take-append-seam q ws, drop-append-seam q ws) (pass _ _
-    (true-both (true-both (true-both (lt-ltb (length Σ) most-constants f) (le-leb 1 (length q) (w .some-word))) (le-leb (length q) most-constant-words (w .not-more))) (le-leb (length q) (length (q ++ ws)) fits))
+    (true-both (true-both (true-both (lt-ltb (length Σ) most-constants f) (le-leb 1 (length q) (w .some-word)))
+    (le-leb (length q) most-constant-words (w .not-more))) (le-leb (length q) (length (q ++ ws)) fits))
     (bind-is _ (ap (at-constant at) (constant-right Σ sig q A .1 h)) (accepts k _ (extend sig D) (omega (arith, simp length-append at l)) ls)))
 
 pub signature-right : (ws : List ℕ) (Σ : List Term) → (signature ws ≡ ok Σ) ↔ Lists [] ws Σ

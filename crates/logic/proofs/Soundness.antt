@@ -6,9 +6,11 @@ use lib.Dec.{eqb}
 use lib.ListN.{getElem?}
 use borrow.Author.Tests.{eqb-true}
 use Rattle.logic.specs.Result.{ok}
-use Rattle.logic.specs.Term.{propA, typeA, stringA, prinA, kindPA, kindTA, constA, textA, nameA, saysO, piO, lamO, appO, retO, bindO, Term, atom, var, sign, node, P, N, size}
+use Rattle.logic.specs.Term.{propA, typeA, stringA, prinA, kindPA, kindTA, constA, textA, nameA, saysO, piO, lamO, appO, retO, bindO, Term}
+use Rattle.logic.specs.Term.{atom, var, sign, node, P, N, size}
 use Rattle.logic.specs.Move.{raise, occurs}
-use Rattle.logic.specs.Typing.{of-prop, Has, has-prop, has-type, has-string, has-prin, has-text, has-name, has-var, has-const, has-says, has-pi, has-lam, has-app, has-sign, has-ret, has-bind}
+use Rattle.logic.specs.Typing.{of-prop, Has, has-prop, has-type, has-string, has-prin, has-text, has-name, has-var, has-const, has-says}
+use Rattle.logic.specs.Typing.{has-pi, has-lam, has-app, has-sign, has-ret, has-bind}
 use Rattle.logic.specs.Scope.{Signature, Context, no-binder, binder}
 use Rattle.logic.specs.Infer.{measured, domain, body, proposition, parts, infer}
 use Rattle.logic.specs.Measured.{Small, Measured}

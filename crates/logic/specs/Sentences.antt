@@ -45,8 +45,8 @@ pub record Sentences : Type 0 where
   pub says-by-string : Breaks (Says (Text 7) consent)
   pub says-string : Breaks (Says (Name 3) (Text 7))
   pub says-kind : Breaks (Says (Name 3) P)
-  -- "Pi d b has the type of b, if that is P or KindP, and d has type T or P", or KindP: "Pi and Lam now admit any domain
-  -- whose type is KindP" (document 02, slip 1), the word P among them
+  -- "Pi d b has the type of b, if that is P or KindP, and d has type T or P", or KindP: "Pi and Lam now admit any
+  -- domain whose type is KindP" (document 02, slip 1), the word P among them
   pub pi-prop : Pi S consent has-type P
   pub pi-kind : Pi S P has-type KindP
   pub pi-over-proofs : Pi consent consent has-type P
@@ -78,14 +78,14 @@ pub record Sentences : Type 0 where
   pub ret : Lam consent (Ret (Name 3) (var 0)) has-type Pi consent (Says (Name 3) consent)
   pub ret-by-string : Breaks (Ret (Text 7) (sign 3 consent))
   pub ret-string : Breaks (Ret (Name 0) (Text 7))
-  -- "Bind e b: e : Says a Q; under a binder of type Q, b : Says a R, with a shifted and variable 0 not in R; the result is
-  -- Says a R shifted down 1."
+  -- "Bind e b: e : Says a Q; under a binder of type Q, b : Says a R, with a shifted and variable 0 not in
+  -- R; the result is Says a R shifted down 1."
   pub bind : Lam N (Lam (Says (var 0) consent) (Bind (var 0) (Ret (var 2) (var 0)))) has-type Pi N (Pi (Says (var 0) consent) (Says (var 1) consent))
   pub bind-lowered : Lam P (Lam (var 0) (Bind (sign 3 consent) (Ret (Name 3) (var 1)))) has-type Pi P (Pi (var 0) (Says (Name 3) (var 1)))
   pub bind-of-string : Breaks (Bind (Text 7) (Ret (Name 3) (var 0)))
   pub bind-to-string : Breaks (Bind (sign 3 consent) (Text 7))
   pub bind-by-other : Breaks (Bind (sign 3 consent) (Ret (Name 4) (var 0)))
-  -- "20 for the escape"; "a Bind whose body another principal says stays 11, even if its variable escapes too" (document
-  -- 02, slip 2)
+  -- "20 for the escape"; "a Bind whose body another principal says stays 11, even if its
+  -- variable escapes too" (document 02, slip 2)
   pub bind-escape : Bind (sign 3 consent) (Ret (Name 3) of-consent) refused-with 20
   pub bind-escape-by-other : Breaks (Bind (sign 3 consent) (Ret (Name 4) of-consent))

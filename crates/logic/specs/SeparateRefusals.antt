@@ -56,8 +56,10 @@ pub record SeparateRefusals (Σ : List Term) : Type 0 where
   pub stands : {Γ : List Term} {m p : ℕ} (t : Term) (at : ℕ) → Context Σ Γ → Plain t → infer Σ Γ at t ≡ refused m p → (m ≤ 12) ⊎ SeparateAt Σ Γ at t m p
   -- each such term is refused so
   pub refuses : {Γ : List Term} {t : Term} {m : ℕ} (at : ℕ) → Context Σ Γ → Separate Σ Γ t m → infer Σ Γ at t ≡ refused m at
-  -- a Bind of no Says stays 11, and "a Bind whose body another principal says stays 11, even if its variable escapes too"
-  pub not-said : {Γ : List Term} {e E : Term} (b : Term) (at : ℕ) → Context Σ Γ → Passed Σ Γ e E → ((a q : Term) → E ≢ Says a q) → infer Σ Γ at (Bind e b) ≡ refused 11 at
+  -- a Bind of no Says stays 11, and "a Bind whose body another principal says
+  -- stays 11, even if its variable escapes too"
+  pub not-said : {Γ : List Term} {e E : Term} (b : Term) (at : ℕ) → Context Σ Γ → Passed Σ Γ e E → ((a q : Term) → E ≢ Says a q)
+      → infer Σ Γ at (Bind e b) ≡ refused 11 at
   pub by-other : {Γ : List Term} {e b a q B : Term} (at : ℕ) → Context Σ Γ → Passed Σ Γ e (Says a q) → Passed Σ (q ∷ Γ) b B →
       ((r : Term) → B ≢ Says (raise 1 a) r) → infer Σ Γ at (Bind e b) ≡ refused 11 at
 

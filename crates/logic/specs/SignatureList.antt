@@ -60,7 +60,9 @@ operations Σ (suc i) = operations Σ i && is-type (Pi S P) (getElem? Σ (permit
 abbrev pub operations-test : List Term → ℕ → Bool
 operations-test Σ n = leb 1 n && leb n most-operations && operations Σ n
 
--- behind the constants Σ the words list those of Σ′: for each a length word, 1 to 256, and the words of a type with a measured derivation of KindP under the constants before it
+-- behind the constants Σ the words list those of Σ′: for each a length word, 1 to 256, and the words of a type with a
+-- measured derivation of KindP under the constants before it
 pub data Lists : List Term → List ℕ → List Term → Type 0 where
   no-more : {Σ : List Term} → Lists Σ [] Σ
-  one-more : {Σ Σ′ : List Term} {q ws : List ℕ} {A : Term} → length Σ < most-constants → WordsOf most-constant-words most-nesting q A → (D : Has Σ [] A KindP) → Measured D → Lists (Σ ++ (A ∷ [])) ws Σ′ → Lists Σ (length q ∷ (q ++ ws)) Σ′
+  one-more : {Σ Σ′ : List Term} {q ws : List ℕ} {A : Term} → length Σ < most-constants → WordsOf most-constant-words most-nesting q A → (D : Has Σ [] A KindP)
+      → Measured D → Lists (Σ ++ (A ∷ [])) ws Σ′ → Lists Σ (length q ∷ (q ++ ws)) Σ′

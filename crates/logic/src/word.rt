@@ -64,7 +64,8 @@ pub const TEXT_0: u32 = TAG_TEXT * PAYLOADS;
 
 pub const NAME_0: u32 = TAG_NAME * PAYLOADS;
 
-// What a word may begin: an atom, a variable, a Sign, a node whose second child stands under no binder or under one, or no term.
+// What a word may begin: an atom, a variable, a Sign, a node whose second child stands
+// under no binder or under one, or no term.
 pub const ATOM: u32 = 0;
 
 pub const VARIABLE: u32 = 1;
@@ -80,7 +81,8 @@ pub const NO_TERM: u32 = 5;
 // The children that a term's word can have.
 pub const MOST_CHILDREN: u32 = 2;
 
-// The table of tags, a digit for each, that of tag 0 last: what a word begins whose payload is 0, and whose payload is another.
+// The table of tags, a digit for each, that of tag 0 last: what a word begins whose
+// payload is 0, and whose payload is another.
 const BARE_KINDS: u64 = 0x4320034430100005;
 
 const KINDS: u64 = 0x5520055550155555;

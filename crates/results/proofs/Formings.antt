@@ -62,7 +62,8 @@ module _ (proof ws : List ℕ) (used at next n m end : ℕ) where
       }
 
   pairs : {o : Op} {a b A B : Term} → keep-of o n ≡ 0 → Forms proof ws used at next n m end o a b A B → Pairs proof ws at next m a B
-  pairs {B} k j = record { here = at-left (j .here); next-is = j .next-is; type = subst (λ (x : ℕ). TypeAt ws x B) k (j .second-type); type-words = j .second-words }
+  pairs {B} k j =
+      record { here = at-left (j .here); next-is = j .next-is; type = subst (λ (x : ℕ). TypeAt ws x B) k (j .second-type); type-words = j .second-words }
 
   bind-says : {a b A B : Term} → Forms proof ws used at next n m end bindO a b A B → Binds ws used m (first A) (second A) B
   unfolding size
@@ -72,7 +73,9 @@ module _ (proof ws : List ℕ) (used at next n m end : ℕ) where
       let k : size A ≡ 1 + size (first A) + size (second A) = omega arith in
       record {
         rest = j .rest;
-        kept = j .kept ∙ ap (λ (x : ℕ). (entry-head + x) ∷ (0 ∷ (size (second A) ∷ ((opWord saysO ∷ (encode (raise 1 (first A)) ++ encode (second A))) ++ j .rest)))) k;
+        kept =
+            j .kept ∙ ap (λ (x : ℕ). (entry-head + x) ∷ (0 ∷
+            (size (second A) ∷ ((opWord saysO ∷ (encode (raise 1 (first A)) ++ encode (second A))) ++ j .rest)))) k;
         principal = p;
         type = j .second-type;
         type-words = j .second-words;
@@ -87,7 +90,9 @@ module _ (proof ws : List ℕ) (used at next n m end : ℕ) where
   by-rule : (o′ : Op) (new : List ℕ) (r : Derivation) → eqb (getD proof at 0) (opWord o′) ≡ true
       → ((a b A B : Term) → Forms proof ws used at next n m end o′ a b A B → Formed (formed o′ at a b A B) end ws new r)
       → (o : Op) (a b A B : Term) → Forms proof ws used at next n m end o a b A B → Formed (formed o at a b A B) end ws new r
-  by-rule o′ new r e f o a b A B j = subst (λ (o : Op). Forms proof ws used at next n m end o a b A B → Formed (formed o at a b A B) end ws new r) (sym (op-is _ o o′ (word-is j) e)) (f a b A B) j
+  by-rule o′ new r e f o a b A B j =
+      subst (λ (o : Op). Forms proof ws used at next n m end o a b A B → Formed (formed o at a b A B) end ws new r) (sym (op-is _ o o′ (word-is j) e))
+      (f a b A B) j
 
   pub formed-app : (new : List ℕ) (r : Derivation) → eqb (getD proof at 0) (opWord appO) ≡ true
       → ((d C e E : Term) → Applies proof ws next n m end d C e E → Formed (applied at d C e E) end ws new r)
@@ -115,15 +120,29 @@ module _ (proof ws : List ℕ) (used at next n m end : ℕ) where
 
   module _ (p : Formable proof ws used at next n m end) where
     -- the node is that of the word that was found
-    found : (o′ : Op) → eqb (getD proof at 0) (opWord o′) ≡ true → Forms proof ws used at next n m end o′ (p .a) (p .b) (p .A) (p .B) × (used + keep-of o′ n + front-words ≤ length ws)
+    found : (o′ : Op) → eqb (getD proof at 0) (opWord o′) ≡ true
+        → Forms proof ws used at next n m end o′ (p .a) (p .b) (p .A) (p .B) × (used + keep-of o′ n + front-words ≤ length ws)
     found o′ e =
-        let q = op-is _ (p .o) o′ (word-is (p .forms)) e in
-        (subst (λ (o : Op). Forms proof ws used at next n m end o (p .a) (p .b) (p .A) (p .B)) q (p .forms), subst (λ (o : Op). used + keep-of o n + front-words ≤ length ws) q (p .room))
+        let q = op-is _ (p .o) o′ (word-is (p .forms)) e in (
+          subst (λ (o : Op). Forms proof ws used at next n m end o (p .a) (p .b) (p .A) (p .B)) q (p .forms),
+          subst
+              (λ (o : Op). used + keep-of o n + front-words ≤ length ws) q (p .room),
+        )
 
     pub appliable : eqb (getD proof at 0) (opWord appO) ≡ true → Appliable proof ws next n m end
     appliable e =
         let (j, l) = found appO e in
-        record { d = first (p .A); C = second (p .A); e = p .b; E = p .B; applies = applies j; small = p .small-first; small-argument = p .small-second; short = p .short; room = omega arith }
+        record {
+          d = first (p .A);
+          C = second (p .A);
+          e = p .b;
+          E = p .B;
+          applies = applies j;
+          small = p .small-first;
+          small-argument = p .small-second;
+          short = p .short;
+          room = omega arith;
+        }
 
     pub bindable : eqb (getD proof at 0) (opWord bindO) ≡ true → Bindable ws used m
     unfolding size
@@ -141,13 +160,16 @@ module _ (proof ws : List ℕ) (used at next n m end : ℕ) where
 
   -- ---- a Says or a Pi
 
-  stays : (t : Bool) (B : Term) → t ≡ true → size B ≤ most-type-words → TypeAt ws 0 B → m ≡ size B → Formed (condition at t >> measured at B) end ws ws (Typed m end)
+  stays : (t : Bool) (B : Term) → t ≡ true → size B ≤ most-type-words → TypeAt ws 0 B → m ≡ size B
+      → Formed (condition at t >> measured at B) end ws ws (Typed m end)
   stays t B e l h s = types _ B m end ws ws (pass condition-fails at e (measured-fits at B l)) s h refl
 
   -- the word is none of the others
-  module _ (others : (eqb (getD proof at 0) (opWord appO) ≡ false) × (eqb (getD proof at 0) (opWord bindO) ≡ false) × (eqb (getD proof at 0) (opWord lamO) ≡ false) × (eqb (getD proof at 0) (opWord retO) ≡ false))
+  module _ (others : (eqb (getD proof at 0) (opWord appO) ≡ false) × (eqb (getD proof at 0) (opWord bindO) ≡ false) ×
+      (eqb (getD proof at 0) (opWord lamO) ≡ false) × (eqb (getD proof at 0) (opWord retO) ≡ false))
       (prop : Bool) (is-prop : (B : Term) → TypeAt ws 0 B → prop ≡ same B P) where
-    pub formed-prop : prop ≡ true → (o : Op) (a b A B : Term) → Forms proof ws used at next n m end o a b A B → Formed (formed o at a b A B) end ws ws (Typed m end)
+    pub formed-prop : prop ≡ true → (o : Op) (a b A B : Term) → Forms proof ws used at next n m end o a b A B
+        → Formed (formed o at a b A B) end ws ws (Typed m end)
     unfolding formed size
     formed-prop t saysO a b A B j =
         let f : same B P ≡ true = sym (is-prop B (j .second-type)) ∙ t in
@@ -166,9 +188,11 @@ module _ (proof ws : List ℕ) (used at next n m end : ℕ) where
       not-prop : {B : Term} → TypeAt ws 0 B → same B P ≡ false
       not-prop {B} h = sym (is-prop B h) ∙ no
 
-      pub formed-no-says : eqb (getD proof at 0) (opWord saysO) ≡ true → (o : Op) (a b A B : Term) → Forms proof ws used at next n m end o a b A B → Formed (formed o at a b A B) end ws ws (Refused condition-fails at)
+      pub formed-no-says : eqb (getD proof at 0) (opWord saysO) ≡ true → (o : Op) (a b A B : Term) → Forms proof ws used at next n m end o a b A B
+          → Formed (formed o at a b A B) end ws ws (Refused condition-fails at)
       unfolding formed
-      formed-no-says e = by-rule saysO ws (Refused condition-fails at) e (λ a b A B j. refuses _ condition-fails at end ws (fail _ at _ (not-prop (j .second-type))))
+      formed-no-says e =
+          by-rule saysO ws (Refused condition-fails at) e (λ a b A B j. refuses _ condition-fails at end ws (fail _ at _ (not-prop (j .second-type))))
 
       module _ (no-says : eqb (getD proof at 0) (opWord saysO) ≡ false) (kind : Bool) (is-kind : (B : Term) → TypeAt ws 0 B → kind ≡ same B KindP) where
         -- only a Pi is left
@@ -182,18 +206,22 @@ module _ (proof ws : List ℕ) (used at next n m end : ℕ) where
 
         by-pi : (r : Derivation) → ((a b A B : Term) → Forms proof ws used at next n m end piO a b A B → Formed (formed piO at a b A B) end ws ws r)
             → (o : Op) (a b A B : Term) → Forms proof ws used at next n m end o a b A B → Formed (formed o at a b A B) end ws ws r
-        by-pi r f o a b A B j = subst (λ (o : Op). Forms proof ws used at next n m end o a b A B → Formed (formed o at a b A B) end ws ws r) (sym (the-pi o (word-is j))) (f a b A B) j
+        by-pi r f o a b A B j =
+            subst (λ (o : Op). Forms proof ws used at next n m end o a b A B → Formed (formed o at a b A B) end ws ws r) (sym (the-pi o (word-is j)))
+            (f a b A B) j
 
         body-is : {B : Term} → TypeAt ws 0 B → body B ≡ kind
         body-is {B} h = ap (λ (x : Bool). x || same B KindP) (not-prop h) ∙ sym (is-kind B h)
 
-        pub formed-kind : kind ≡ true → (o : Op) (a b A B : Term) → Forms proof ws used at next n m end o a b A B → Formed (formed o at a b A B) end ws ws (Typed m end)
+        pub formed-kind : kind ≡ true → (o : Op) (a b A B : Term) → Forms proof ws used at next n m end o a b A B
+            → Formed (formed o at a b A B) end ws ws (Typed m end)
         unfolding formed size
         formed-kind t = by-pi (Typed m end) (λ a b A B j.
             let f : body B ≡ true = body-is (j .second-type) ∙ t in
             let z : size B ≡ 1 = ap size (same-true B KindP (sym (is-kind B (j .second-type)) ∙ t)) in
             stays (body B) B f (omega arith) (j .second-type) (j .second-words))
 
-        pub formed-no-pi : kind ≡ false → (o : Op) (a b A B : Term) → Forms proof ws used at next n m end o a b A B → Formed (formed o at a b A B) end ws ws (Refused condition-fails at)
+        pub formed-no-pi : kind ≡ false → (o : Op) (a b A B : Term) → Forms proof ws used at next n m end o a b A B
+            → Formed (formed o at a b A B) end ws ws (Refused condition-fails at)
         unfolding formed
         formed-no-pi t = by-pi (Refused condition-fails at) (λ a b A B j. refuses _ condition-fails at end ws (fail _ at _ (body-is (j .second-type) ∙ t)))

@@ -16,7 +16,8 @@ use Rattle.logic.specs.Limits.{payloads, most-type-words}
 use Rattle.logic.specs.Refusals.{condition-fails, type-too-long, argument-mismatch, variable-escapes}
 use Rattle.logic.specs.Result.{Result, refused, _>>_, require, pick}
 use Rattle.logic.specs.Tags.{tag-name, tag-sign}
-use Rattle.logic.specs.Term.{Op, saysO, piO, lamO, appO, retO, bindO, Term, atom, var, sign, node, binds, under, P, KindP, KindT, Name, Says, word, payload-of, opWord, encode, size}
+use Rattle.logic.specs.Term.{Op, saysO, piO, lamO, appO, retO, bindO, Term, atom, var, sign, node, binds, under, P, KindP, KindT, Name, Says, word}
+use Rattle.logic.specs.Term.{payload-of, opWord, encode, size}
 use Rattle.logic.specs.Move.{shift, raise, lower, fillAt, fill, occurs}
 use Rattle.logic.specs.Reading.{branch, shape, Plain, PlainType}
 use Rattle.logic.specs.Infer.{same-term, same, conclusion, proposition, measured}
@@ -84,7 +85,8 @@ module _ (proof ws : List ℕ) (at next n m end : ℕ) (d C e E : Term) (j : App
       let i : n + m - n ≡ size E = omega arith in
       ap (λ (i : ℕ). take i (drop n ws)) i ∙ type-part (j .argument)
 
-  pub apply-differs : (r : Bool) → not r ≡ true → (take (1 + m - 1) (drop 1 ws) ≡ take (n + m - n) (drop n ws) → r ≡ true) → Formed (applied at d C e E) end ws ws (Refused argument-mismatch at)
+  pub apply-differs : (r : Bool) → not r ≡ true → (take (1 + m - 1) (drop 1 ws) ≡ take (n + m - n) (drop n ws) → r ≡ true)
+      → Formed (applied at d C e E) end ws ws (Refused argument-mismatch at)
   apply-differs r t f = unlike λ q. denied r t (f (domain-part (ap size q) ∙ ap encode (sym q) ∙ sym type-words))
 
   module _ (agree : take (1 + m - 1) (drop 1 ws) ≡ take (n + m - n) (drop n ws)) where
@@ -108,7 +110,8 @@ module _ (proof ws : List ℕ) (at next n m end : ℕ) (d C e E : Term) (j : App
           let g = over-is C (fillAt 0 e C) (1 + m) 0 (length zeros) (f .answer) o in
           refuses _ type-too-long at end ws (filled-type _ (measured-long at (fill C e) (omega arith)))
 
-      pub apply-done : length zeros ≤ most-type-words → (new : List ℕ) (k words : ℕ) → r ≡ Done k words → new ≡ written ws 0 (take words (drop 0 filled)) → Formed (applied at d C e E) end ws new (Typed words end)
+      pub apply-done : length zeros ≤ most-type-words → (new : List ℕ) (k words : ℕ) → r ≡ Done k words → new ≡ written ws 0 (take words (drop 0 filled))
+          → Formed (applied at d C e E) end ws new (Typed words end)
       apply-done l new k words o c =
           let was = done-is C (fillAt 0 e C) (1 + m) 0 (length zeros) (f .answer) k words o in
           let s : words ≡ size (fillAt 0 e C) = let x : words ≡ 0 + size (fillAt 0 e C) = was .end-is in omega arith in
@@ -136,7 +139,8 @@ module _ (proof ws : List ℕ) (at n end a : ℕ) (q s : Term) (j : Signs proof 
     sign-long l = let z = signed-size in refuses _ type-too-long at end ws (signed-type _ (measured-long at _ (omega arith)))
 
     pub sign-done : (new : List ℕ) (n : ℕ) → n ≡ payload-of (getD proof at 0) → end - at + 1 ≤ most-type-words → 2 ≤ length ws
-        → new ≡ written (set (set ws 0 (opWord saysO)) 1 (word tag-name n)) 2 (take (end - at + 1 - 2) (drop (at + 1) proof)) → Formed (sign-type at a q s) end ws new (Typed (end - at + 1) end)
+        → new ≡ written (set (set ws 0 (opWord saysO)) 1 (word tag-name n)) 2 (take (end - at + 1 - 2) (drop (at + 1) proof))
+        → Formed (sign-type at a q s) end ws new (Typed (end - at + 1) end)
     unfolding size encode Plain
     sign-done new n r l m c =
         let z : end - at + 1 ≡ suc (1 + size q) = signed-size in
@@ -189,14 +193,18 @@ module _ (proof ws : List ℕ) (at next m end : ℕ) (o : Op) (a B : Term) (j : 
         let small : size (node o a B) ≤ most-type-words = omega arith in
         let la : length (encode a) ≡ size a = encode-size a in
         let lb : length (encode B) ≡ size B = encode-size B in
-        let first-words : take (next - at - 1) (drop (at + 1) proof) ≡ encode a = let i : next - at - 1 ≡ size a = omega arith in ap (λ (i : ℕ). take i (drop (at + 1) proof)) i ∙ at-part (j .here) in
+        let first-words : take (next - at - 1) (drop (at + 1) proof) ≡ encode a = let i : next - at - 1 ≡ size a = omega arith in
+        ap (λ (i : ℕ). take i (drop (at + 1) proof)) i ∙ at-part (j .here) in
         let type-words : take m (drop 0 ws) ≡ encode B = ap (λ (i : ℕ). take i (drop 0 ws)) k ∙ type-part (j .type) in
         let ea′ : aside ≡ written ws most-type-words (encode B) = ea ∙ ap (written ws most-type-words) type-words in
         let em′ : mid ≡ written (set aside 0 (opWord o)) 1 (encode a) = em ∙ ap₂ (λ (v : ℕ) (l : List ℕ). written (set aside 0 v) 1 l) h first-words in
         let ef : mid ≡ written aside 0 (opWord o ∷ encode a) = written-cons aside mid 0 (opWord o) (encode a) (omega arith) em′ in
-        let back : take m (drop most-type-words mid) ≡ encode B = ap (take m) (written-kept aside mid (opWord o ∷ encode a) 0 most-type-words (omega arith) ef (omega arith)) ∙ written-there ws aside (encode B) most-type-words m (omega arith) ea′ (k ∙ sym lb) in
+        let back : take m (drop most-type-words mid) ≡ encode B = ap (take m)
+        (written-kept aside mid (opWord o ∷ encode a) 0 most-type-words (omega arith) ef (omega arith))
+        ∙ written-there ws aside (encode B) most-type-words m (omega arith) ea′ (k ∙ sym lb) in
         let i : next - at ≡ 1 + size a = omega arith in
-        writes _ (node o a B) (next - at + m) end ws aside new (pair-type _ (measured-fits at _ small)) s small (inl (j .here .plain, proposition-plain B (j .type .plain) (sym f ∙ not-false r t)))
+        writes _ (node o a B) (next - at + m) end ws aside new (pair-type _ (measured-fits at _ small)) s small
+        (inl (j .here .plain, proposition-plain B (j .type .plain) (sym f ∙ not-false r t)))
         (written-kept ws aside (encode B) most-type-words front-words (omega arith) ea′ (omega arith))
         (written-node aside mid new 0 (opWord o) (size a) (encode a) (encode B) (omega arith) (sym la) em′ (en ∙ ap₂ (written mid) i back))
 
@@ -248,7 +256,8 @@ said-by ws k p B h r e =
     let w : ws ≡ opWord saysO ∷ (encode (raise 1 p) ++ drop k ws) = sym (take-append-drop k ws) ∙ ap (λ (l : List ℕ). l ++ drop k ws) e in
     let s = says-first B (h .plain) (sym (words-head ws 0 B (h .rest) (h .words)) ∙ ap (λ (l : List ℕ). getD l 0 0) w) in
     let i : InRange (Says (s .left) (s .right)) = subst InRange (s .is) (in-range B (h .plain)) in
-    let b : encode (Says (s .left) (s .right)) ++ h .rest ≡ opWord saysO ∷ (encode (raise 1 p) ++ drop k ws) = ap (λ (t : Term). encode t ++ h .rest) (sym (s .is)) ∙ sym (h .words) ∙ w in
+    let b : encode (Says (s .left) (s .right)) ++ h .rest ≡ opWord saysO ∷ (encode (raise 1 p) ++ drop k ws) = ap (λ (t : Term). encode t ++ h .rest)
+    (sym (s .is)) ∙ sym (h .words) ∙ w in
     let l : s .left ≡ raise 1 p = prefix-free (s .left) (raise 1 p) (encode (s .right) ++ h .rest) (drop k ws) (i .0) (plain-in-range (raise 1 p) r)
     (sym (append-assoc (encode (s .left)) (encode (s .right)) (h .rest)) ∙ tail-eq-of-cons-eq b) .0 in
     record { right = s .right; is = s .is ∙ ap (λ (t : Term). Says t (s .right)) l }
@@ -258,7 +267,8 @@ unfolding encode
 said-words ws k p B h e s =
     let z : length (encode (raise 1 p)) ≡ size p = length-shift 0 (pos 1) p in
     let n : length (opWord saysO ∷ encode (raise 1 p)) ≡ k = omega arith in
-    ap (take k) (h .words ∙ ap (λ (t : Term). encode t ++ h .rest) (s .is) ∙ ap (λ (l : List ℕ). opWord saysO ∷ l) (append-assoc (encode (raise 1 p)) (encode (s .right)) (h .rest)))
+    ap (take k) (h .words ∙ ap (λ (t : Term). encode t ++ h .rest) (s .is)
+    ∙ ap (λ (l : List ℕ). opWord saysO ∷ l) (append-assoc (encode (raise 1 p)) (encode (s .right)) (h .rest)))
     ∙ take-at (opWord saysO ∷ encode (raise 1 p)) (encode (s .right) ++ h .rest) k n
 
 bound-unsaid : (at : ℕ) (p B : Term) → (Said p B → ⊥) → bound at p B ≡ refused condition-fails at
@@ -272,13 +282,15 @@ bound-unsaid at p (node appO x y) n = refl
 bound-unsaid at p (node retO x y) n = refl
 bound-unsaid at p (node bindO x y) n = refl
 
-bound-said : (at : ℕ) (p B : Term) (s : Said p B) (o : Result Term) → (require (eqb (occurs 0 (s .right)) 0) variable-escapes at >> measured at (Says p (lower (s .right)))) ≡ o → bound at p B ≡ o
+bound-said : (at : ℕ) (p B : Term) (s : Said p B) (o : Result Term)
+    → (require (eqb (occurs 0 (s .right)) 0) variable-escapes at >> measured at (Says p (lower (s .right)))) ≡ o → bound at p B ≡ o
 bound-said at p B s o e = ap (bound at p) (s .is) ∙ pass condition-fails at (same-yes refl) e
 
 module _ (ws : List ℕ) (used at m end : ℕ) (p q B : Term) (j : Binds ws used m p q B) where
   -- the words before the principal's in the entry
   pub total-is : getD ws (length ws - used) 0 ≡ entry-head + (1 + size p + size q)
-  total-is = ap (λ (k : ℕ). getD ws k 0) (sym (add-zero (length ws - used))) ∙ sym (getD-drop (length ws - used) ws 0 0) ∙ ap (λ (l : List ℕ). getD l 0 0) (j .kept)
+  total-is =
+      ap (λ (k : ℕ). getD ws k 0) (sym (add-zero (length ws - used))) ∙ sym (getD-drop (length ws - used) ws 0 0) ∙ ap (λ (l : List ℕ). getD l 0 0) (j .kept)
 
   pub kept-size : getD ws (length ws - used + 2) 0 ≡ size q
   kept-size = sym (getD-drop (length ws - used) ws 2 0) ∙ ap (λ (l : List ℕ). getD l 2 0) (j .kept)
@@ -309,43 +321,50 @@ module _ (ws : List ℕ) (used at m end : ℕ) (p q B : Term) (j : Binds ws used
     pub bind-short : m ≤ said → Formed (bound at p B) end ws ws (Refused condition-fails at)
     bind-short l = unsaid λ s. let z = said-size s in let k = size-pos (s .right) in omega arith
 
-    kept-part : take (length ws - used + entry-head + said - (length ws - used + entry-head)) (drop (length ws - used + entry-head) ws) ≡ opWord saysO ∷ encode (raise 1 p)
+    kept-part : take (length ws - used + entry-head + said - (length ws - used + entry-head)) (drop (length ws - used + entry-head) ws) ≡ opWord saysO ∷ encode
+        (raise 1 p)
     kept-part =
         let h : ℕ = length ws - used in
         let i : length ws - used + entry-head + said - (length ws - used + entry-head) ≡ said = omega arith in
         let z : length (encode (raise 1 p)) ≡ size p = length-shift 0 (pos 1) p in
         let n : length (opWord saysO ∷ encode (raise 1 p)) ≡ said = omega arith in
-        ap₂ take i (sym (drop-drop entry-head h ws) ∙ ap (drop entry-head) (j .kept) ∙ ap (λ (l : List ℕ). opWord saysO ∷ l) (append-assoc (encode (raise 1 p)) (encode q) (j .rest)))
+        ap₂ take i (sym (drop-drop entry-head h ws) ∙ ap (drop entry-head) (j .kept)
+        ∙ ap (λ (l : List ℕ). opWord saysO ∷ l) (append-assoc (encode (raise 1 p)) (encode q) (j .rest)))
         ∙ take-at (opWord saysO ∷ encode (raise 1 p)) (encode q ++ j .rest) said n
 
-    pub bind-differs : (r : Bool) → not r ≡ true → (take said ws ≡ take (length ws - used + entry-head + said - (length ws - used + entry-head)) (drop (length ws - used + entry-head) ws) → r ≡ true) → Formed (bound at p B) end ws ws (Refused condition-fails at)
+    pub bind-differs : (r : Bool) → not r ≡ true → (take said ws ≡ take (length ws - used + entry-head + said - (length ws - used + entry-head))
+        (drop (length ws - used + entry-head) ws) → r ≡ true) → Formed (bound at p B) end ws ws (Refused condition-fails at)
     bind-differs r t f = unsaid λ s. denied r t (f (said-words ws said p B (j .type) e s ∙ sym kept-part))
 
-    module _ (agree : take said ws ≡ take (length ws - used + entry-head + said - (length ws - used + entry-head)) (drop (length ws - used + entry-head) ws)) where
-      pub saying : Said p B
-      saying = said-by ws said p B (j .type) (j .principal) (agree ∙ kept-part)
+    module _ (agree : take said ws ≡ take (length ws - used + entry-head + said - (length ws - used + entry-head)) (drop (length ws - used + entry-head) ws))
+      where
+        pub saying : Said p B
+        saying = said-by ws said p B (j .type) (j .principal) (agree ∙ kept-part)
 
-      pub said-at : At ws 0 B
-      said-at = record { plain = node-plain B _ _ _ (saying .is) (j .type .plain); rest = j .type .rest; words = j .type .words }
+        pub said-at : At ws 0 B
+        said-at = record { plain = node-plain B _ _ _ (saying .is) (j .type .plain); rest = j .type .rest; words = j .type .words }
 
-      pub right-at : At ws said (saying .right)
-      right-at =
-          let z : size (raise 1 p) ≡ size p = size-shift 0 (pos 1) p in
-          let i : 0 + 1 + size (raise 1 p) ≡ said = omega arith in
-          subst (λ (k : ℕ). At ws k (saying .right)) i (at-right (subst (At ws 0) (saying .is) said-at))
+        pub right-at : At ws said (saying .right)
+        right-at =
+            let z : size (raise 1 p) ≡ size p = size-shift 0 (pos 1) p in
+            let i : 0 + 1 + size (raise 1 p) ≡ said = omega arith in
+            subst (λ (k : ℕ). At ws k (saying .right)) i (at-right (subst (At ws 0) (saying .is) said-at))
 
-      module _ (r : Option ℕ) (f : r ≡ absent (said + size (saying .right)) (occurs 0 (saying .right))) where
-        pub bind-present : r ≡ none → Formed (bound at p B) end ws ws (Refused variable-escapes at)
-        bind-present t = refuses _ variable-escapes at end ws (bound-said at p B saying _ (fail _ at _ (present-is (occurs 0 (saying .right)) _ (sym t ∙ f))))
+        module _ (r : Option ℕ) (f : r ≡ absent (said + size (saying .right)) (occurs 0 (saying .right))) where
+          pub bind-present : r ≡ none → Formed (bound at p B) end ws ws (Refused variable-escapes at)
+          bind-present t = refuses _ variable-escapes at end ws (bound-said at p B saying _ (fail _ at _ (present-is (occurs 0 (saying .right)) _ (sym t ∙ f))))
 
-        pub bind-absent : (k : ℕ) (new : List ℕ) (words : ℕ) → r ≡ some k → m ≤ most-type-words → Shifted B 0 (negsuc 0) ws 0 new words → Formed (bound at p B) end ws new (Typed words end)
-        unfolding shift
-        bind-absent k new words t l h =
-            let low : shift 0 (negsuc 0) B ≡ Says p (lower (saying .right)) = ap lower (saying .is) ∙ ap (λ (u : Term). Says u (lower (saying .right))) (lower-raise 0 p) in
-            let z : size (Says p (lower (saying .right))) ≡ size B = sym (ap size low) ∙ size-shift 0 (negsuc 0) B in
-            let n = j .type-words in
-            let small : size (Says p (lower (saying .right))) ≤ most-type-words = omega arith in
-            writes _ (Says p (lower (saying .right))) words end ws ws new
-            (bound-said at p B saying _ (pass variable-escapes at (eq-eqb (occurs 0 (saying .right)) 0 (absent-is (occurs 0 (saying .right)) _ k (sym t ∙ f) .never)) (measured-fits at _ small)))
-            (h .count ∙ sym z) small (inl (subst Plain low (plain-lower 0 B (said-at .plain)))) refl
-            (h .words ∙ ap (λ (u : Term). written ws 0 (encode u)) low)
+          pub bind-absent : (k : ℕ) (new : List ℕ) (words : ℕ) → r ≡ some k → m ≤ most-type-words → Shifted B 0 (negsuc 0) ws 0 new words
+              → Formed (bound at p B) end ws new (Typed words end)
+          unfolding shift
+          bind-absent k new words t l h =
+              let low : shift 0 (negsuc 0) B ≡ Says p (lower (saying .right)) = ap lower (saying .is)
+              ∙ ap (λ (u : Term). Says u (lower (saying .right))) (lower-raise 0 p) in
+              let z : size (Says p (lower (saying .right))) ≡ size B = sym (ap size low) ∙ size-shift 0 (negsuc 0) B in
+              let n = j .type-words in
+              let small : size (Says p (lower (saying .right))) ≤ most-type-words = omega arith in
+              writes _ (Says p (lower (saying .right))) words end ws ws new
+              (bound-said at p B saying _ (pass variable-escapes at
+              (eq-eqb (occurs 0 (saying .right)) 0 (absent-is (occurs 0 (saying .right)) _ k (sym t ∙ f) .never)) (measured-fits at _ small)))
+              (h .count ∙ sym z) small (inl (subst Plain low (plain-lower 0 B (said-at .plain)))) refl
+              (h .words ∙ ap (λ (u : Term). written ws 0 (encode u)) low)

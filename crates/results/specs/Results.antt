@@ -50,7 +50,8 @@ pub record Pairable (proof ws : List ℕ) (at next m : ℕ) : Type 0 where
   pub short : length proof ≤ most-words
   pub room : front-words ≤ length ws
 
--- a Bind's body has the type B, at the front of the workspace; the type Says p q of its proof is kept at the end, with p raised
+-- a Bind's body has the type B, at the front of the workspace; the type Says p q of
+-- its proof is kept at the end, with p raised
 pub record Binds (ws : List ℕ) (used m : ℕ) (p q B : Term) : Type 0 where
   pub rest : List ℕ
   pub kept : tail used ws ≡ (entry-head + (1 + size p + size q)) ∷ 0 ∷ size q ∷ ((opWord saysO ∷ (encode (raise 1 p) ++ encode q)) ++ rest)
@@ -82,7 +83,8 @@ pub record Signable (proof ws : List ℕ) (at n end : ℕ) : Type 0 where
   pub short : length proof ≤ most-words
   pub room : front-words ≤ length ws
 
--- what the result needs of the first child's type A: of an App a Pi type at the front of the workspace, of a Bind a Says type
+-- what the result needs of the first child's type A: of an App a Pi type at the
+-- front of the workspace, of a Bind a Says type
 abbrev pub First : Op → List ℕ → (b A B : Term) → Type 0
 First saysO ws b A B = Unit {0}
 First piO ws b A B = Unit {0}
@@ -91,7 +93,8 @@ First appO ws b A B = (A ≡ Pi (first A) (second A)) × TypeAt ws 0 A × (B ≡
 First retO ws b A B = Unit {0}
 First bindO ws b A B = (A ≡ Says (first A) (second A)) × Plain (raise 1 (first A))
 
--- a node stands in the proof, the type B of its second child behind what is kept at the front of the workspace, and the entry of its binder, if any, at the end
+-- a node stands in the proof, the type B of its second child behind what is kept at the front of the workspace, and
+-- the entry of its binder, if any, at the end
 pub record Forms (proof ws : List ℕ) (used at next n m end : ℕ) (o : Op) (a b A B : Term) : Type 0 where
   pub here : At proof at (node o a b)
   pub next-is : next ≡ at + 1 + size a

@@ -13,7 +13,8 @@ ghost use Rattle.rules.specs.Rule.{applied};
 ghost use Rattle.rules.specs.Form.{Formed};
 ghost use Rattle.results.specs.Results.{Applies, Appliable};
 
-// The type of an App, at the front of the workspace, or the refusal. The function's type is the first n words of the workspace, the argument's type the m after them; the argument stands at `next` in the proof, up to `end`.
+// The type of an App, at the front of the workspace, or the refusal. The function's type is the first n words of the
+// workspace, the argument's type the m after them; the argument stands at `next` in the proof, up to `end`.
 pub fn apply(
     proof: &[u32],
     ws: &mut [u32],
@@ -24,9 +25,11 @@ pub fn apply(
     end: usize,
 ) -> Derivation
     requires { ⌜ Appliable (now proof) (now ws) next n m end ⌝ }
-    ensures { λ r. ⌜ ((d C e E : Term) → Applies (now (proof .entry)) (now (ws .entry)) next n m end d C e E → Formed (applied at d C e E) end (now (ws .entry)) (now (ws .exit)) r) ⌝ }
+    ensures { λ r. ⌜ ((d C e E : Term) → Applies (now (proof .entry)) (now (ws .entry)) next n m end d C e E
+        → Formed (applied at d C e E) end (now (ws .entry)) (now (ws .exit)) r) ⌝ }
 {
-    // behind the word Pi stand the domain's words: the argument's type is the domain exactly if its words stand there too, for no term's words begin another's
+    // behind the word Pi stand the domain's words: the argument's type is the domain exactly if its words stand there
+    // too, for no term's words begin another's
     let body = 1 + m;
     if n <= body {
         return Derivation::Refused {

@@ -12,8 +12,9 @@ ghost use Rattle.rules.specs.Rule.{bound};
 ghost use Rattle.rules.specs.Form.{Formed};
 ghost use Rattle.results.specs.Results.{Binds, Bindable};
 
-// The type of a Bind, at the front of the workspace, or the refusal. The body's type is the first m words of the workspace; the proof's type Says p q, with p raised, is kept in the nearest binder's entry,
-// with which the `used` words at the end begin.
+// The type of a Bind, at the front of the workspace, or the refusal. The body's type is the first m words
+// of the workspace; the proof's type Says p q, with p raised, is kept in the nearest binder's entry, with
+// which the `used` words at the end begin.
 pub fn bind(ws: &mut [u32], used: usize, at: usize, m: usize, end: usize) -> Derivation
     requires { ⌜ Bindable (now ws) used m ⌝ }
     ensures { λ r. ⌜ ((p q B : Term) → Binds (now (ws .entry)) used m p q B → Formed (bound at p B) end (now (ws .entry)) (now (ws .exit)) r) ⌝ }
@@ -45,7 +46,8 @@ pub fn bind(ws: &mut [u32], used: usize, at: usize, m: usize, end: usize) -> Der
             place: at,
         },
         Occurrence::Absent(_) => {
-            // "shifts every free variable up or down by a signed amount": minus 1 after Bind, the principal's too, which was raised
+            // "shifts every free variable up or down by a signed amount": minus 1 after
+            // Bind, the principal's too, which was raised
             let words = shift_within(ws, 0, 0, -1);
             Derivation::Typed { words, end }
         }

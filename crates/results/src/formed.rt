@@ -19,8 +19,9 @@ ghost use Rattle.rules.specs.Rule.{formed as formedBy};
 ghost use Rattle.rules.specs.Form.{Formed};
 ghost use Rattle.results.specs.Results.{Forms, Formable};
 
-// The type of a node, at the front of the workspace, or the refusal. The node stands at `at` in the proof, up to `end`, its second child from `next` on. The second child's type has m words, at the front of the
-// workspace; of an App, they stand behind the n words of its function's type.
+// The type of a node, at the front of the workspace, or the refusal. The node stands at `at` in the proof, up to `end`,
+// its second child from `next` on. The second child's type has m words, at the front of the workspace; of an App, they
+// stand behind the n words of its function's type.
 pub fn formed(
     proof: &[u32],
     ws: &mut [u32],
@@ -32,7 +33,8 @@ pub fn formed(
     end: usize,
 ) -> Derivation
     requires { ⌜ Formable (now proof) (now ws) used at next n m end ⌝ }
-    ensures { λ r. ⌜ ((o : Op) → (a b A B : Term) → Forms (now (proof .entry)) (now (ws .entry)) used at next n m end o a b A B → Formed (formedBy o at a b A B) end (now (ws .entry)) (now (ws .exit)) r) ⌝ }
+    ensures { λ r. ⌜ ((o : Op) → (a b A B : Term) → Forms (now (proof .entry)) (now (ws .entry)) used at next n m end o a b A B
+        → Formed (formedBy o at a b A B) end (now (ws .entry)) (now (ws .exit)) r) ⌝ }
 {
     let word = proof[at];
     let is_app = word == TAG_APP * PAYLOADS;

@@ -12,7 +12,8 @@ ghost use Rattle.rules.specs.Rule.{paired};
 ghost use Rattle.rules.specs.Form.{Formed};
 ghost use Rattle.results.specs.Results.{Pairs, Pairable};
 
-// The type that begins with the word `head`, at the front of the workspace, or the refusal. The first child stands in the proof behind `at`, up to `next`; the second's type is the first m words of the workspace.
+// The type that begins with the word `head`, at the front of the workspace, or the refusal. The first child stands in
+// the proof behind `at`, up to `next`; the second's type is the first m words of the workspace.
 pub fn pair(
     proof: &[u32],
     ws: &mut [u32],
@@ -23,7 +24,8 @@ pub fn pair(
     end: usize,
 ) -> Derivation
     requires { ⌜ Pairable (now proof) (now ws) at next m ⌝ }
-    ensures { λ r. ⌜ ((o : Op) → (a B : Term) → head ≡ opWord o → Pairs (now (proof .entry)) (now (ws .entry)) at next m a B → Formed (paired at o a B) end (now (ws .entry)) (now (ws .exit)) r) ⌝ }
+    ensures { λ r. ⌜ ((o : Op) → (a B : Term) → head ≡ opWord o → Pairs (now (proof .entry)) (now (ws .entry)) at next m a B
+        → Formed (paired at o a B) end (now (ws .entry)) (now (ws .exit)) r) ⌝ }
 {
     let fine = proposition(&ws[..], 0);
     if !fine {

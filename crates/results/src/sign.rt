@@ -16,10 +16,12 @@ ghost use Rattle.rules.specs.Rule.{sign-type};
 ghost use Rattle.rules.specs.Form.{Formed};
 ghost use Rattle.results.specs.Results.{Signs, Signable};
 
-// The type of a Sign, at the front of the workspace, or the refusal. The Sign stands in the proof at `at`, up to `end`; its proposition's type is the first n words of the workspace.
+// The type of a Sign, at the front of the workspace, or the refusal. The Sign stands in the proof at `at`, up to `end`;
+// its proposition's type is the first n words of the workspace.
 pub fn sign(proof: &[u32], ws: &mut [u32], at: usize, n: usize, end: usize) -> Derivation
     requires { ⌜ Signable (now proof) (now ws) at n end ⌝ }
-    ensures { λ r. ⌜ ((a : ℕ) → (q s : Term) → Signs (now (proof .entry)) (now (ws .entry)) at n end a q s → Formed (sign-type at a q s) end (now (ws .entry)) (now (ws .exit)) r) ⌝ }
+    ensures { λ r. ⌜ ((a : ℕ) → (q s : Term) → Signs (now (proof .entry)) (now (ws .entry)) at n end a q s
+        → Formed (sign-type at a q s) end (now (ws .entry)) (now (ws .exit)) r) ⌝ }
 {
     let fine = front_is(&ws[..], TAG_PROP * PAYLOADS);
     if !fine {

@@ -12,7 +12,8 @@ use Rattle.logic.specs.Limits.{most-type-words}
 use Rattle.logic.specs.Refusals.{unknown-constant, type-too-long}
 use Rattle.logic.specs.Tags.{tag-prop, tag-type, tag-string, tag-prin, tag-constant, tag-text, tag-name, tag-kindP, tag-kindT}
 use Rattle.logic.specs.Result.{Result, ok, _>>=_, known, pick}
-use Rattle.logic.specs.Term.{Atom, propA, typeA, stringA, prinA, kindPA, kindTA, constA, textA, nameA, Term, atom, atomWord, word, tag-of, payload-of, encode, size}
+use Rattle.logic.specs.Term.{Atom, propA, typeA, stringA, prinA, kindPA, kindTA, constA, textA, nameA, Term, atom, atomWord, word, tag-of}
+use Rattle.logic.specs.Term.{payload-of, encode, size}
 use Rattle.logic.specs.Reading.{Plain, PlainAtom, PlainType}
 use Rattle.logic.specs.Infer.{measured, infer-atom}
 use Rattle.logic.proofs.Basics.{clash, some-inj}
@@ -31,7 +32,9 @@ use Rattle.rules.proofs.Fronts.{measured-fits, measured-long, refuses, 
 
 -- the word of the type, by the code's tests
 abbrev pub sort-by : ℕ → ℕ
-sort-by tag = pick (eqb tag tag-prop) (word tag-kindP 0) (pick (eqb tag tag-type) (word tag-kindT 0) (pick (eqb tag tag-text) (word tag-string 0) (pick (eqb tag tag-name) (word tag-prin 0) (word tag-type 0))))
+sort-by tag =
+    pick (eqb tag tag-prop) (word tag-kindP 0) (pick (eqb tag tag-type) (word tag-kindT 0)
+    (pick (eqb tag tag-text) (word tag-string 0) (pick (eqb tag tag-name) (word tag-prin 0) (word tag-type 0))))
 
 sort-right : (a b : Atom) → PlainAtom a → sort-of a ≡ some b → sort-by (tag-of (atomWord a)) ≡ atomWord b
 sort-right propA b p e = ap atomWord (some-inj e)
@@ -96,7 +99,8 @@ sort-infers Σ at (textA n) b e = ap (λ (b : Atom). ok (atom b)) (some-inj e)
 sort-infers Σ at (nameA n) b e = ap (λ (b : Atom). ok (atom b)) (some-inj e)
 
 -- its word was written at the front
-pub sorted : (Σ : List Term) (at r : ℕ) (ws : List ℕ) (a b : Atom) → 0 < length ws → sort-of a ≡ some b → r ≡ atomWord b → Formed (atom-type Σ at a) (at + 1) ws (set ws 0 r) (Typed 1 (at + 1))
+pub sorted : (Σ : List Term) (at r : ℕ) (ws : List ℕ) (a b : Atom) → 0 < length ws → sort-of a ≡ some b → r ≡ atomWord b
+    → Formed (atom-type Σ at a) (at + 1) ws (set ws 0 r) (Typed 1 (at + 1))
 unfolding encode size
 sorted Σ at r ws a b l e q =
     writes (atom-type Σ at a) (atom b) 1 (at + 1) ws ws (set ws 0 r)
@@ -119,14 +123,18 @@ no-element [] n h = refl
 no-element (A ∷ l) zero h = absurd (omega arith)
 no-element (A ∷ l) (suc n) h = no-element l n (le-of-suc-le-suc h)
 
-pub constant-unknown : {sig table : List ℕ} {Σ : List Term} (ws : List ℕ) (n at : ℕ) → length table ≤ n → Declared sig table Σ → Formed (atom-type Σ at (constA n)) (at + 1) ws ws (Refused unknown-constant at)
+pub constant-unknown : {sig table : List ℕ} {Σ : List Term} (ws : List ℕ) (n at : ℕ) → length table ≤ n → Declared sig table Σ
+    → Formed (atom-type Σ at (constA n)) (at + 1) ws ws (Refused unknown-constant at)
 constant-unknown {sig} {table} {Σ} ws n at l d =
     let c : length table ≡ length Σ = d .count in
-    refuses (atom-type Σ at (constA n)) unknown-constant at (at + 1) ws (ap (λ (o : Option Term). known unknown-constant at o >>= measured at) (no-element Σ n (omega arith)))
+    refuses (atom-type Σ at (constA n)) unknown-constant at (at + 1) ws
+    (ap (λ (o : Option Term). known unknown-constant at o >>= measured at) (no-element Σ n (omega arith)))
 
 -- a constant's word has a constant's type
-pub constant-typed : {ws new : List ℕ} {r : Derivation} {n : ℕ} (Σ : List Term) (at w : ℕ) (a : Atom) → PlainAtom a → w ≡ atomWord a → tag-of w ≡ tag-constant → n ≡ payload-of w → Formed (atom-type Σ at (constA n)) (at + 1) ws new r → Formed (atom-type Σ at a) (at + 1) ws new r
-constant-typed {ws} {new} {r} Σ at w a p e t q f = subst (λ (x : Atom). Formed (atom-type Σ at x) (at + 1) ws new r) (ap constA q ∙ sym (constant-word w a p e t)) f
+pub constant-typed : {ws new : List ℕ} {r : Derivation} {n : ℕ} (Σ : List Term) (at w : ℕ) (a : Atom) → PlainAtom a → w ≡ atomWord a → tag-of w ≡ tag-constant
+    → n ≡ payload-of w → Formed (atom-type Σ at (constA n)) (at + 1) ws new r → Formed (atom-type Σ at a) (at + 1) ws new r
+constant-typed {ws} {new} {r} Σ at w a p e t q f =
+    subst (λ (x : Atom). Formed (atom-type Σ at x) (at + 1) ws new r) (ap constA q ∙ sym (constant-word w a p e t)) f
 
 -- where a constant's type stands
 pub record ConstantAt (sig table : List ℕ) (n : ℕ) (Σ : List Term) : Type 0 where
@@ -151,7 +159,9 @@ module _ {sig table : List ℕ} {n : ℕ} {Σ : List Term} (ws : List ℕ) (at :
       let w : getD sig (getD table n 0 - 1) 0 ≡ size (c .type) = c .words in
       refuses (atom-type Σ at (constA n)) type-too-long at (at + 1) ws (constant-is ∙ measured-long at (c .type) (omega arith))
 
-  pub constant-copied : {new : List ℕ} → getD sig (getD table n 0 - 1) 0 ≤ most-type-words → new ≡ written ws 0 (take (getD sig (getD table n 0 - 1) 0) (drop (getD table n 0) sig)) → Formed (atom-type Σ at (constA n)) (at + 1) ws new (Typed (getD sig (getD table n 0 - 1) 0) (at + 1))
+  pub constant-copied : {new : List ℕ} → getD sig (getD table n 0 - 1) 0 ≤ most-type-words
+      → new ≡ written ws 0 (take (getD sig (getD table n 0 - 1) 0) (drop (getD table n 0) sig))
+      → Formed (atom-type Σ at (constA n)) (at + 1) ws new (Typed (getD sig (getD table n 0 - 1) 0) (at + 1))
   constant-copied {new} l e =
       let w : getD sig (getD table n 0 - 1) 0 ≡ size (c .type) = c .words in
       writes (atom-type Σ at (constA n)) (c .type) (getD sig (getD table n 0 - 1) 0) (at + 1) ws ws new

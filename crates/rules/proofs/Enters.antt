@@ -13,7 +13,8 @@ use Rattle.logic.specs.Limits.{most-type-words}
 use Rattle.logic.specs.Refusals.{condition-fails, not-a-function}
 use Rattle.logic.specs.Result.{Result, ok, refused, _>>_, known}
 use Rattle.logic.specs.Tags.{tag-app, tag-bind, tag-kindP, tag-kindT}
-use Rattle.logic.specs.Term.{propA, typeA, kindPA, Op, saysO, piO, lamO, appO, retO, bindO, Op-discrete, Term, atom, var, sign, node, N, Says, word, tag-of, atomWord, opWord, encode, size}
+use Rattle.logic.specs.Term.{propA, typeA, kindPA, Op, saysO, piO, lamO, appO, retO, bindO, Op-discrete, Term, atom, var, sign, node, N, Says, word}
+use Rattle.logic.specs.Term.{tag-of, atomWord, opWord, encode, size}
 use Rattle.logic.specs.Move.{raise}
 use Rattle.logic.specs.Reading.{branch, shape, Plain, PlainType}
 use Rattle.logic.specs.Infer.{same, condition, domain, Parts, parts}
@@ -81,7 +82,8 @@ node-of o A (inr (inr k)) e = let q : word tag-kindT 0 ≡ opWord o = sym (ap fi
 parts-some : (o : Op) (x y : Term) → parts o (node o x y) ≡ some (record { left = x; right = y })
 parts-some o x y = go (Op-discrete o o)
   where
-    go : (d : Dec (o ≡ o)) → _≡_ {A = Option Parts} (elim d [ yes _ ↦ some (record { left = x; right = y }) | no _ ↦ none ]) (some (record { left = x; right = y }))
+    go : (d : Dec (o ≡ o)) → _≡_ {A = Option Parts} (elim d [ yes _ ↦ some (record { left = x; right = y }) | no _ ↦ none ])
+        (some (record { left = x; right = y }))
     go (yes q) = refl
     go (no q) = absurd (q refl)
 
@@ -136,7 +138,8 @@ module _ {ws mid : List ℕ} {n : ℕ} {p q : Term} (used : ℕ) (h : TypeAt ws 
 
   -- its principal was raised, and the entry's head written
   pub says-kept : {low new : List ℕ} {w : ℕ} (at : ℕ) (a : Term) → Shifted p 0 (pos 1) mid (length ws - (used + (entry-head + n)) + entry-head + 1) low w
-      → new ≡ written low (length ws - (used + (entry-head + n))) ((entry-head + n) ∷ 0 ∷ (n - 1 - w) ∷ []) → Kept (entry bindO at a (Says p q)) used ws new (used + (entry-head + n))
+      → new ≡ written low (length ws - (used + (entry-head + n))) ((entry-head + n) ∷ 0 ∷ (n - 1 - w) ∷ [])
+      → Kept (entry bindO at a (Says p q)) used ws new (used + (entry-head + n))
   says-kept {low} {new} {w} at a f g =
       let to : ℕ = length ws - (used + (entry-head + n)) in
       let x : List ℕ = opWord saysO ∷ [] in
@@ -180,7 +183,8 @@ app-rule appO at a A n w e t = record { tests = refl; keeps = refl; front = refl
 app-rule retO at a A n w e t = absurd (omega arith)
 app-rule bindO at a A n w e t = absurd (omega arith)
 
-bind-rule : (o : Op) (at : ℕ) (a A : Term) (n w : ℕ) → w ≡ opWord o → tag-of w ≡ tag-bind → Rule o at a A n (node-test condition-fails saysO at A) (entry bindO at a A) 0
+bind-rule : (o : Op) (at : ℕ) (a A : Term) (n w : ℕ) → w ≡ opWord o → tag-of w ≡ tag-bind
+    → Rule o at a A n (node-test condition-fails saysO at A) (entry bindO at a A) 0
 unfolding ready
 bind-rule saysO at a A n w e t = absurd (omega arith)
 bind-rule piO at a A n w e t = absurd (omega arith)
@@ -193,7 +197,8 @@ kind-op : (o : Op) → kindOf (shape (opWord o)) ≡ opKind o
 kind-op o = ap kindOf (shape-op o)
 
 -- of Pi and Lam
-binder-rule : (o : Op) (at : ℕ) (a A : Term) (n w : ℕ) → w ≡ opWord o → (tag-of w ≡ tag-bind → ⊥) → opKind o ≡ kind-binder → Rule o at a A n (condition at (domain A)) (entry-head ∷ (at + 1) ∷ size a ∷ []) 0
+binder-rule : (o : Op) (at : ℕ) (a A : Term) (n w : ℕ) → w ≡ opWord o → (tag-of w ≡ tag-bind → ⊥) → opKind o ≡ kind-binder
+    → Rule o at a A n (condition at (domain A)) (entry-head ∷ (at + 1) ∷ size a ∷ []) 0
 unfolding ready
 binder-rule saysO at a A n w e q k = absurd (omega arith)
 binder-rule piO at a A n w e q k = record { tests = refl; keeps = refl; front = refl }
@@ -203,7 +208,8 @@ binder-rule retO at a A n w e q k = absurd (omega arith)
 binder-rule bindO at a A n w e q k = absurd (q (omega arith))
 
 -- of Says and Ret
-plain-rule : (o : Op) (at : ℕ) (a A : Term) (n w : ℕ) → w ≡ opWord o → (tag-of w ≡ tag-app → ⊥) → (opKind o ≡ kind-binder → ⊥) → Rule o at a A n (condition at (same A N)) [] 0
+plain-rule : (o : Op) (at : ℕ) (a A : Term) (n w : ℕ) → w ≡ opWord o → (tag-of w ≡ tag-app → ⊥) → (opKind o ≡ kind-binder → ⊥)
+    → Rule o at a A n (condition at (same A N)) [] 0
 unfolding ready
 plain-rule saysO at a A n w e q k = record { tests = refl; keeps = refl; front = refl }
 plain-rule piO at a A n w e q k = absurd (k refl)
@@ -213,12 +219,15 @@ plain-rule retO at a A n w e q k = record { tests = refl; keeps = refl; front = 
 plain-rule bindO at a A n w e q k = absurd (k refl)
 
 module _ {o : Op} {at : ℕ} {a A : Term} {n : ℕ} {test : Result (Unit {0})} {xs : List ℕ} {keep : ℕ} (rule : Rule o at a A n test xs keep) where
-  passes : (used : ℕ) (old new : List ℕ) (r : ℕ) → test ≡ ok tt → Kept xs used old new r → used + length xs + size A ≤ length old → TypeAt old 0 A → Entering o at a A n used old new (Fits keep r)
+  passes : (used : ℕ) (old new : List ℕ) (r : ℕ) → test ≡ ok tt → Kept xs used old new r → used + length xs + size A ≤ length old → TypeAt old 0 A
+      → Entering o at a A n used old new (Fits keep r)
   passes used old new r e k l h =
       let x : entry o at a A ≡ xs = rule .keeps in
       let t = rule .tests ∙ e in
       record {
-        answer = ap₂ (λ (i j : ℕ). entered-answer at (Fits i j)) (sym (rule .front)) (k .count ∙ ap (λ (y : List ℕ). used + length y) (sym x)) ∙ sym (then-is _ t refl);
+        answer =
+            ap₂ (λ (i j : ℕ). entered-answer at (Fits i j)) (sym (rule .front)) (k .count ∙ ap (λ (y : List ℕ). used + length y) (sym x))
+            ∙ sym (then-is _ t refl);
         kept = subst (λ (u : Result (Unit {0})). Entry-kept u o at a A used old new) (sym t) (
           ap (λ (y : List ℕ). tail (used + length y) new) x ∙ kept-tail xs old new used r (omega arith) k ∙ ap (λ (y : List ℕ). y ++ tail used old) (sym x),
           kept-type xs old new used r (omega arith) k A l h,
@@ -226,11 +235,14 @@ module _ {o : Op} {at : ℕ} {a A : Term} {n : ℕ} {test : Result (Unit {0})} {
       }
 
   fails : {m : ℕ} (used : ℕ) (old : List ℕ) → test ≡ refused m at → Entering o at a A n used old old (Fails m)
-  fails used old e = let t = rule .tests ∙ e in record { answer = sym (stop-then _ t); kept = subst (λ (u : Result (Unit {0})). Entry-kept u o at a A used old old) (sym t) refl }
+  fails used old e =
+      let t = rule .tests ∙ e in
+      record { answer = sym (stop-then _ t); kept = subst (λ (u : Result (Unit {0})). Entry-kept u o at a A used old old) (sym t) refl }
 
 -- ---- the answers
 
-module _ {proof ws : List ℕ} {at next n : ℕ} {o : Op} {a A : Term} (used : ℕ) (room : used + level-words + front-words ≤ length ws) (small : n ≤ most-type-words) (j : Enters proof ws at next n o a A) where
+module _ {proof ws : List ℕ} {at next n : ℕ} {o : Op} {a A : Term} (used : ℕ) (room : used + level-words + front-words ≤ length ws)
+    (small : n ≤ most-type-words) (j : Enters proof ws at next n o a A) where
   front-first : getD ws 0 0 ≡ first A
   front-first = words-head ws 0 A (j .type .rest) (j .type .words)
 
@@ -239,7 +251,9 @@ module _ {proof ws : List ℕ} {at next n : ℕ} {o : Op} {a A : Term} (used : �
   passes-none rule e = let w : n ≡ size A = j .type-words in passes rule used ws ws used e (kept-none ws used) (omega arith) (j .type)
 
   node-passes : (m : ℕ) (h : Op) → getD ws 0 0 ≡ opWord h → node-test m h at A ≡ ok tt
-  node-passes m h e = let i = node-of h A (j .type .plain) (sym front-first ∙ e) in ap (λ (B : Term). node-test m h at B) (i .is) ∙ ap (λ (x : Option Parts). known m at x >> ok tt) (parts-some h (i .left) (i .right))
+  node-passes m h e =
+      let i = node-of h A (j .type .plain) (sym front-first ∙ e) in
+      ap (λ (B : Term). node-test m h at B) (i .is) ∙ ap (λ (x : Option Parts). known m at x >> ok tt) (parts-some h (i .left) (i .right))
 
   node-fails : (m : ℕ) (h : Op) → (getD ws 0 0 ≡ opWord h → ⊥) → node-test m h at A ≡ refused m at
   node-fails m h q = ap (λ (x : Option Parts). known m at x >> ok tt) (parts-none h A λ e. q (front-first ∙ e))
@@ -254,16 +268,28 @@ module _ {proof ws : List ℕ} {at next n : ℕ} {o : Op} {a A : Term} (used : �
   pub bind-keeps : getD ws 0 0 ≡ opWord saysO → Keepable ws used n
   bind-keeps e =
       let i = node-of saysO A (j .type .plain) (sym front-first ∙ e) in
-      record { p = i .left; q = i .right; type = subst (TypeAt ws 0) (i .is) (j .type); type-words = j .type-words ∙ ap size (i .is); small = small; room = room }
+      record {
+        p = i .left;
+        q = i .right;
+        type = subst (TypeAt ws 0) (i .is) (j .type);
+        type-words = j .type-words
+            ∙ ap size (i .is);
+        small = small;
+        room = room;
+      }
 
-  pub bind-passes : {new : List ℕ} {r : ℕ} → tag-of (getD proof at 0) ≡ tag-bind → getD ws 0 0 ≡ opWord saysO → ((i : ℕ) (b p q : Term) → TypeAt ws 0 (Says p q) → n ≡ size (Says p q) → Kept (entry bindO i b (Says p q)) used ws new r) → Entering o at a A n used ws new (Fits 0 r)
+  pub bind-passes : {new : List ℕ} {r : ℕ} → tag-of (getD proof at 0) ≡ tag-bind → getD ws 0 0 ≡ opWord saysO
+      → ((i : ℕ) (b p q : Term) → TypeAt ws 0 (Says p q) → n ≡ size (Says p q) → Kept (entry bindO i b (Says p q)) used ws new r)
+      → Entering o at a A n used ws new (Fits 0 r)
   bind-passes {new} {r} t e f =
       let i = node-of saysO A (j .type .plain) (sym front-first ∙ e) in
       let p : Term = i .left in
       let q : Term = i .right in
       let w : n ≡ size A = j .type-words in
-      let k : Kept (entry bindO at a A) used ws new r = subst (λ (B : Term). Kept (entry bindO at a B) used ws new r) (sym (i .is)) (f at a p q (subst (TypeAt ws 0) (i .is) (j .type)) (w ∙ ap size (i .is))) in
-      let l : length (entry bindO at a A) ≡ entry-head + size A = ap (λ (B : Term). length (entry bindO at a B)) (i .is) ∙ bind-length at a p q ∙ ap (λ (B : Term). entry-head + size B) (sym (i .is)) in
+      let k : Kept (entry bindO at a A) used ws new r = subst (λ (B : Term). Kept (entry bindO at a B) used ws new r) (sym (i .is))
+      (f at a p q (subst (TypeAt ws 0) (i .is) (j .type)) (w ∙ ap size (i .is))) in
+      let l : length (entry bindO at a A) ≡ entry-head + size A = ap (λ (B : Term). length (entry bindO at a B)) (i .is) ∙ bind-length at a p q
+      ∙ ap (λ (B : Term). entry-head + size B) (sym (i .is)) in
       passes (bind-rule o at a A n _ (j .head) t) used ws new r (node-passes _ saysO e) k (omega arith) (j .type)
 
   pub bind-fails : tag-of (getD proof at 0) ≡ tag-bind → (getD ws 0 0 ≡ opWord saysO → ⊥) → Entering o at a A n used ws ws (Fails condition-fails)
@@ -280,7 +306,8 @@ module _ {proof ws : List ℕ} {at next n : ℕ} {o : Op} {a A : Term} (used : �
   domain-is : (b : Bool) → Answers b → b ≡ domain A
   domain-is b f = f A (j .type .plain) front-first
 
-  pub binder-passes : {new : List ℕ} {r k : ℕ} {b : Bool} → (tag-of (getD proof at 0) ≡ tag-bind → ⊥) → k ≡ kindOf (shape (getD proof at 0)) → k ≡ kind-binder → b ≡ true → Answers b → Kept (entry-head ∷ (at + 1) ∷ (next - (at + 1)) ∷ []) used ws new r → Entering o at a A n used ws new (Fits 0 r)
+  pub binder-passes : {new : List ℕ} {r k : ℕ} {b : Bool} → (tag-of (getD proof at 0) ≡ tag-bind → ⊥) → k ≡ kindOf (shape (getD proof at 0)) → k ≡ kind-binder
+      → b ≡ true → Answers b → Kept (entry-head ∷ (at + 1) ∷ (next - (at + 1)) ∷ []) used ws new r → Entering o at a A n used ws new (Fits 0 r)
   binder-passes {new} {r} {k} {b} t e i d f g =
       let w : n ≡ size A = j .type-words in
       let x : next ≡ at + 1 + size a = j .next-is in
@@ -291,11 +318,14 @@ module _ {proof ws : List ℕ} {at next n : ℕ} {o : Op} {a A : Term} (used : �
       (omega arith)
       (j .type)
 
-  pub binder-fails : {k : ℕ} {b : Bool} → (tag-of (getD proof at 0) ≡ tag-bind → ⊥) → k ≡ kindOf (shape (getD proof at 0)) → k ≡ kind-binder → b ≡ false → Answers b → Entering o at a A n used ws ws (Fails condition-fails)
+  pub binder-fails : {k : ℕ} {b : Bool} → (tag-of (getD proof at 0) ≡ tag-bind → ⊥) → k ≡ kindOf (shape (getD proof at 0)) → k ≡ kind-binder → b ≡ false
+      → Answers b → Entering o at a A n used ws ws (Fails condition-fails)
   binder-fails {k} {b} t e i d f = fails (binder-rule o at a A n _ (j .head) t (op-kind k e ∙ i)) used ws (ap (condition at) (sym (domain-is b f) ∙ d))
 
-  pub plain-passes : {k : ℕ} {b : Bool} → (tag-of (getD proof at 0) ≡ tag-app → ⊥) → k ≡ kindOf (shape (getD proof at 0)) → (k ≡ kind-binder → ⊥) → b ≡ true → b ≡ same A N → Entering o at a A n used ws ws (Fits 0 used)
+  pub plain-passes : {k : ℕ} {b : Bool} → (tag-of (getD proof at 0) ≡ tag-app → ⊥) → k ≡ kindOf (shape (getD proof at 0)) → (k ≡ kind-binder → ⊥) → b ≡ true
+      → b ≡ same A N → Entering o at a A n used ws ws (Fits 0 used)
   plain-passes {k} t e q d f = passes-none (plain-rule o at a A n _ (j .head) t (λ i. q (sym (op-kind k e) ∙ i))) (ap (condition at) (sym f ∙ d))
 
-  pub plain-fails : {k : ℕ} {b : Bool} → (tag-of (getD proof at 0) ≡ tag-app → ⊥) → k ≡ kindOf (shape (getD proof at 0)) → (k ≡ kind-binder → ⊥) → b ≡ false → b ≡ same A N → Entering o at a A n used ws ws (Fails condition-fails)
+  pub plain-fails : {k : ℕ} {b : Bool} → (tag-of (getD proof at 0) ≡ tag-app → ⊥) → k ≡ kindOf (shape (getD proof at 0)) → (k ≡ kind-binder → ⊥) → b ≡ false
+      → b ≡ same A N → Entering o at a A n used ws ws (Fails condition-fails)
   plain-fails {k} t e q d f = fails (plain-rule o at a A n _ (j .head) t (λ i. q (sym (op-kind k e) ∙ i))) used ws (ap (condition at) (sym f ∙ d))

@@ -33,7 +33,8 @@ use Rattle.rules.specs.declared.derivation.Derivation.the-variants.{Type
 
 -- whether a type is an atom is told by its first word
 pub atom-first : (A : Term) (w : ℕ) → PlainType A → w ≡ first A → (a : Atom) → InRangeAtom a → eqb w (atomWord a) ≡ same A (atom a)
-atom-first A w p e a r = same-test _ _ (λ t. same-yes (first-atom A a (in-range A p) r (sym e ∙ eqb-true _ _ t))) (λ t. eq-eqb _ _ (e ∙ ap first (same-true A (atom a) t)))
+atom-first A w p e a r =
+    same-test _ _ (λ t. same-yes (first-atom A a (in-range A p) r (sym e ∙ eqb-true _ _ t))) (λ t. eq-eqb _ _ (e ∙ ap first (same-true A (atom a) t)))
 
 -- a test that was denied does not pass
 pub denied : (b : Bool) → not b ≡ true → b ≡ true → ⊥
@@ -78,15 +79,19 @@ measured-long at A l = simp (lt-leb (size A) most-type-words l)
 pub refuses : (o : Result Term) (m p end : ℕ) (ws : List ℕ) → o ≡ refused m p → Formed o end ws ws (Refused m p)
 refuses o m p end ws e = subst (λ (o : Result Term). Formed o end ws ws (Refused m p)) (sym e) (record { answer = refl; front = tt; rest = refl })
 
-pub types : (o : Result Term) (A : Term) (words end : ℕ) (ws new : List ℕ) → o ≡ ok A → words ≡ size A → TypeAt new 0 A → drop front-words new ≡ drop front-words ws → Formed o end ws new (Typed words end)
+pub types : (o : Result Term) (A : Term) (words end : ℕ) (ws new : List ℕ) → o ≡ ok A → words ≡ size A → TypeAt new 0 A
+    → drop front-words new ≡ drop front-words ws → Formed o end ws new (Typed words end)
 types o A words end ws new e s h r =
-    subst (λ (o : Result Term). Formed o end ws new (Typed words end)) (sym e) (record { answer = ap (λ (w : ℕ). derivation-answer (Typed w end)) s; front = h; rest = r })
+    subst (λ (o : Result Term). Formed o end ws new (Typed words end)) (sym e)
+    (record { answer = ap (λ (w : ℕ). derivation-answer (Typed w end)) s; front = h; rest = r })
 
 -- the words of the type were written at the front, after others that left the rest
-pub writes : (o : Result Term) (A : Term) (words end : ℕ) (ws mid new : List ℕ) → o ≡ ok A → words ≡ size A → size A ≤ most-type-words → PlainType A → drop front-words mid ≡ drop front-words ws → new ≡ written mid 0 (encode A) → Formed o end ws new (Typed words end)
+pub writes : (o : Result Term) (A : Term) (words end : ℕ) (ws mid new : List ℕ) → o ≡ ok A → words ≡ size A → size A ≤ most-type-words → PlainType A
+    → drop front-words mid ≡ drop front-words ws → new ≡ written mid 0 (encode A) → Formed o end ws new (Typed words end)
 writes o A words end ws mid new e s l p k w =
     let z : length (encode A) ≡ size A = encode-size A in
-    types o A words end ws new e s (record { plain = p; rest = drop (0 + length (encode A)) mid; words = w }) (written-kept mid new (encode A) 0 front-words (omega arith) w (omega arith) ∙ k)
+    types o A words end ws new e s (record { plain = p; rest = drop (0 + length (encode A)) mid; words = w })
+    (written-kept mid new (encode A) 0 front-words (omega arith) w (omega arith) ∙ k)
 
 -- ---- what an answer tells
 

@@ -37,10 +37,12 @@ take-written old xs to k l h =
 -- from where they were written on
 pub drop-written : (old xs : List ℕ) (to : ℕ) → to ≤ length old → drop to (written old to xs) ≡ xs ++ drop (to + length xs) old
 drop-written old xs to l =
-    ap (drop to) (append-assoc (take to old) xs (drop (to + length xs) old)) ∙ drop-at (take to old) (xs ++ drop (to + length xs) old) to (length-take-le to old l)
+    ap (drop to) (append-assoc (take to old) xs (drop (to + length xs) old))
+    ∙ drop-at (take to old) (xs ++ drop (to + length xs) old) to (length-take-le to old l)
 
 -- words written before words that were written are written together
-pub written-before : (old : List ℕ) (to : ℕ) (xs ys : List ℕ) → to + length xs ≤ length old → written (written old (to + length xs) ys) to xs ≡ written old to (xs ++ ys)
+pub written-before : (old : List ℕ) (to : ℕ) (xs ys : List ℕ) → to + length xs ≤ length old
+    → written (written old (to + length xs) ys) to xs ≡ written old to (xs ++ ys)
 written-before old to xs ys h =
     let k : ℕ = to + length xs in
     let r : List ℕ = drop (k + length ys) old in
@@ -50,18 +52,21 @@ written-before old to xs ys h =
     ∙ ap₂ (λ (x y : List ℕ). x ++ y) (append-assoc (take to old) xs ys) (ap (λ (i : ℕ). drop i old) e)
 
 -- the first of the words that were written are written anew
-written-again : (old : List ℕ) (to : ℕ) (ys zs us : List ℕ) → to ≤ length old → length us ≡ length ys → written (written old to (ys ++ zs)) to us ≡ written old to (us ++ zs)
+written-again : (old : List ℕ) (to : ℕ) (ys zs us : List ℕ) → to ≤ length old → length us ≡ length ys
+    → written (written old to (ys ++ zs)) to us ≡ written old to (us ++ zs)
 written-again old to ys zs us h e =
     let new : List ℕ = written old to (ys ++ zs) in
     let r : List ℕ = drop (to + length (ys ++ zs)) old in
-    let d : drop (to + length us) new ≡ zs ++ r = sym (drop-drop (length us) to new) ∙ ap (drop (length us)) (drop-written old (ys ++ zs) to h ∙ append-assoc ys zs r) ∙ drop-at ys (zs ++ r) (length us) (sym e) in
+    let d : drop (to + length us) new ≡ zs ++ r = sym (drop-drop (length us) to new)
+    ∙ ap (drop (length us)) (drop-written old (ys ++ zs) to h ∙ append-assoc ys zs r) ∙ drop-at ys (zs ++ r) (length us) (sym e) in
     let q : length (ys ++ zs) ≡ length (us ++ zs) = length-append ys zs ∙ ap (λ (i : ℕ). i + length zs) (sym e) ∙ sym (length-append us zs) in
     ap₂ (λ (x y : List ℕ). x ++ us ++ y) (take-written old (ys ++ zs) to to h (omega arith)) d
     ∙ sym (append-assoc (take to old ++ us) zs r)
     ∙ ap₂ (λ (x y : List ℕ). x ++ y) (append-assoc (take to old) us zs) (ap (λ (i : ℕ). drop (to + i) old) q)
 
 -- and those behind the first
-pub written-inside : (old : List ℕ) (to : ℕ) (xs ys zs us : List ℕ) → to + length xs ≤ length old → length us ≡ length ys → written (written old to (xs ++ (ys ++ zs))) (to + length xs) us ≡ written old to (xs ++ (us ++ zs))
+pub written-inside : (old : List ℕ) (to : ℕ) (xs ys zs us : List ℕ) → to + length xs ≤ length old → length us ≡ length ys
+    → written (written old to (xs ++ (ys ++ zs))) (to + length xs) us ≡ written old to (xs ++ (us ++ zs))
 written-inside old to xs ys zs us h e =
     let mid : List ℕ = written old to xs in
     let l : length mid ≡ length old = length-written old to xs h in
@@ -91,7 +96,8 @@ module _ (xs old new : List ℕ) (used r : ℕ) (room : used + length xs ≤ len
         plain = h .plain;
         rest = drop (size A) new;
         words = sym (take-append-drop (size A) new)
-            ∙ ap (λ (x : List ℕ). x ++ drop (size A) new) (ap (take (size A)) (k .words) ∙ take-written old xs to (size A) (omega arith) (omega arith) ∙ type-part h);
+            ∙ ap (λ (x : List ℕ). x ++ drop (size A) new) (ap (take (size A)) (k .words) ∙ take-written old xs to (size A) (omega arith) (omega arith)
+            ∙ type-part h);
       }
 
 -- nothing is kept

@@ -38,7 +38,8 @@ scope-drop floor kept t ws h l =
 
 -- ---- the nearest binder's entry
 
--- of the words h of a scope, the nearest binder's entry has `total` words; its type has `words` words, which stand at the entry's end, or in the proof from `start` on
+-- of the words h of a scope, the nearest binder's entry has `total` words; its type has `words` words, which stand at
+-- the entry's end, or in the proof from `start` on
 pub record Nearest (proof h : List ℕ) (Γ : List Term) (total start words : ℕ) : Type 0 where
   pub type : Term
   pub known : getElem? Γ 0 ≡ some type
@@ -65,10 +66,13 @@ nearest proof h Γ l (in-workspace {h = g} {Γ = Δ} {A} {s} x p one b) =
     let k : ℕ = length x + size A in
     let e : List ℕ = (entry-head + k) ∷ s ∷ size A ∷ (x ++ (encode A ++ g)) in
     let t : ltb entry-head (entry-head + k) ≡ true = lt-ltb entry-head (entry-head + k) (omega arith) in
-    let a : drop (entry-head + k) e ≡ g = sym (drop-drop k entry-head e) ∙ drop-append-add x (encode A ++ g) (size A) ∙ drop-at (encode A) g (size A) (encode-size A) in
+    let a : drop (entry-head + k) e ≡ g = sym (drop-drop k entry-head e) ∙ drop-append-add x (encode A ++ g) (size A)
+    ∙ drop-at (encode A) g (size A) (encode-size A) in
     let i : entry-head + k - size A ≡ entry-head + length x = omega arith in
-    let w : drop (entry-head + k - size A) e ≡ encode A ++ g = ap (λ (i : ℕ). drop i e) i ∙ sym (drop-drop (length x) entry-head e) ∙ drop-at x (encode A ++ g) (length x) refl in
-    let m : length (x ++ (encode A ++ g)) ≡ length x + (length (encode A) + length g) = length-append x (encode A ++ g) ∙ ap (λ (i : ℕ). length x + i) (length-append (encode A) g) in
+    let w : drop (entry-head + k - size A) e ≡ encode A ++ g = ap (λ (i : ℕ). drop i e) i ∙ sym (drop-drop (length x) entry-head e)
+    ∙ drop-at x (encode A ++ g) (length x) refl in
+    let m : length (x ++ (encode A ++ g)) ≡ length x + (length (encode A) + length g) = length-append x (encode A ++ g)
+    ∙ ap (λ (i : ℕ). length x + i) (length-append (encode A) g) in
     let n : length (encode A) ≡ size A = encode-size A in
     record {
       type = A;
@@ -98,13 +102,15 @@ entry-at proof ws floor kept Γ h l b =
 -- ---- the search for a binder
 
 -- no entry is passed yet
-pub passed-none : {proof ws : List ℕ} {floor used : ℕ} {Γ : List Term} (n : ℕ) → floor ≤ used → Binders proof (scope-words floor used ws) Γ → Found proof ws floor used (n - n) Γ used
+pub passed-none : {proof ws : List ℕ} {floor used : ℕ} {Γ : List Term} (n : ℕ) → floor ≤ used → Binders proof (scope-words floor used ws) Γ
+    → Found proof ws floor used (n - n) Γ used
 passed-none {proof} {ws} {floor} {used} {Γ} n l b =
     let z : 0 ≡ n - n = omega arith in
     record { least = l; most = omega arith; binders = subst (λ (i : ℕ). Binders proof (scope-words floor used ws) (drop i Γ)) z b }
 
 -- n entries are passed
-pub passed-n : {proof ws : List ℕ} {floor used kept : ℕ} {Γ : List Term} (left n : ℕ) → left ≡ 0 → Found proof ws floor used (n - left) Γ kept → Found proof ws floor used n Γ kept
+pub passed-n : {proof ws : List ℕ} {floor used kept : ℕ} {Γ : List Term} (left n : ℕ) → left ≡ 0 → Found proof ws floor used (n - left) Γ kept
+    → Found proof ws floor used n Γ kept
 passed-n {proof} {ws} {floor} {used} {kept} {Γ} left n z f = let e : n - left ≡ n = omega arith in subst (λ (i : ℕ). Found proof ws floor used i Γ kept) e f
 
 -- an entry ends within the words of the scope
@@ -112,7 +118,8 @@ pub record Step (ws : List ℕ) (floor kept : ℕ) : Type 0 where
   pub some : 0 < getD ws (length ws - kept) 0
   pub inside : floor + getD ws (length ws - kept) 0 ≤ kept
 
-pub step : {proof ws : List ℕ} {floor used kept n : ℕ} {Γ : List Term} → floor < kept → used ≤ length ws → Found proof ws floor used n Γ kept → Step ws floor kept
+pub step : {proof ws : List ℕ} {floor used kept n : ℕ} {Γ : List Term} → floor < kept → used ≤ length ws → Found proof ws floor used n Γ kept
+    → Step ws floor kept
 step {proof} {ws} {floor} {used} {kept} {n} {Γ} h l f =
     let most : kept ≤ used = f .most in
     let b : kept ≤ length ws = omega arith in
@@ -145,7 +152,8 @@ no-binders proof h Γ e (in-proof a b) = absurd (clash (cc))
 no-binders proof h Γ e (in-workspace x p one b) = absurd (clash (cc))
 
 -- no binder is left
-pub passed-all : {proof ws : List ℕ} {floor used kept : ℕ} {Γ : List Term} (left n : ℕ) → left ≤ n → kept ≤ floor → Found proof ws floor used (n - left) Γ kept → Found proof ws floor used n Γ floor
+pub passed-all : {proof ws : List ℕ} {floor used kept : ℕ} {Γ : List Term} (left n : ℕ) → left ≤ n → kept ≤ floor → Found proof ws floor used (n - left) Γ kept
+    → Found proof ws floor used n Γ floor
 passed-all {proof} {ws} {floor} {used} {kept} {Γ} left n m h f =
     let least : floor ≤ kept = f .least in
     let e : kept ≡ floor = omega arith in
@@ -153,4 +161,9 @@ passed-all {proof} {ws} {floor} {used} {kept} {Γ} left n m h f =
     let k : n - left + left ≡ n = omega arith in
     let o : drop (n - left) Γ ≡ [] = no-binders proof (scope-words floor kept ws) (drop (n - left) Γ) (ap (λ (i : ℕ). take i (tail kept ws)) z) (f .binders) in
     let q : drop (n - left) Γ ≡ drop n Γ = o ∙ sym (drop-nil left) ∙ ap (drop left) (sym o) ∙ drop-drop left (n - left) Γ ∙ ap (λ (i : ℕ). drop i Γ) k in
-    subst (Found proof ws floor used n Γ) e (record { least = least; most = f .most; binders = subst (Binders proof (scope-words floor kept ws)) q (f .binders) })
+    subst (Found proof ws floor used n Γ) e (record {
+      least = least;
+      most = f .most;
+      binders = subst (Binders proof (scope-words floor kept ws)) q
+          (f .binders);
+    })

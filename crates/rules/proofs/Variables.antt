@@ -73,14 +73,17 @@ pub record Entry (proof ws : List ℕ) (kept n : ℕ) (Γ : List Term) : Type 0 
   pub inside : getD ws (length ws - kept) 0 ≤ kept
   pub within : ltb entry-head (getD ws (length ws - kept) 0) ≡ true → getD ws (length ws - kept + 2) 0 ≤ getD ws (length ws - kept) 0
   pub here : At (pick (ltb entry-head (getD ws (length ws - kept) 0)) ws proof)
-      (pick (ltb entry-head (getD ws (length ws - kept) 0)) (length ws - kept + (getD ws (length ws - kept) 0 - getD ws (length ws - kept + 2) 0)) (getD ws (length ws - kept + 1) 0)) type
+      (pick (ltb entry-head (getD ws (length ws - kept) 0)) (length ws - kept + (getD ws (length ws - kept) 0 - getD ws (length ws - kept + 2) 0))
+      (getD ws (length ws - kept + 1) 0)) type
 
 -- where the words of the scope stand
-in-scope : (b : Bool) (proof ws : List ℕ) (floor kept i start : ℕ) (A : Term) → At (pick b (scope-words floor kept ws) proof) (pick b i start) A → At (pick b ws proof) (pick b (length ws - kept + i) start) A
+in-scope : (b : Bool) (proof ws : List ℕ) (floor kept i start : ℕ) (A : Term) → At (pick b (scope-words floor kept ws) proof) (pick b i start) A
+    → At (pick b ws proof) (pick b (length ws - kept + i) start) A
 in-scope true proof ws floor kept i start A h = at-inside ws (length ws - kept) (kept - floor) i A h
 in-scope false proof ws floor kept i start A h = h
 
-pub entry-of : {proof ws : List ℕ} {floor used n kept : ℕ} {Γ : List Term} → used ≤ length ws → (kept ≡ floor → ⊥) → Found proof ws floor used n Γ kept → Entry proof ws kept n Γ
+pub entry-of : {proof ws : List ℕ} {floor used n kept : ℕ} {Γ : List Term} → used ≤ length ws → (kept ≡ floor → ⊥) → Found proof ws floor used n Γ kept
+    → Entry proof ws kept n Γ
 entry-of {proof} {ws} {floor} {used} {n} {kept} {Γ} l q f =
     let least : floor ≤ kept = f .least in
     let most : kept ≤ used = f .most in
@@ -102,12 +105,14 @@ entry-of {proof} {ws} {floor} {used} {n} {kept} {Γ} l q f =
 
 -- ---- what the code answers
 
-pub variable-unbound : {proof ws : List ℕ} {floor used n kept : ℕ} {Γ : List Term} (at : ℕ) → kept ≡ floor → Found proof ws floor used n Γ kept → Formed (variable-type Γ at n) (at + 1) ws ws (Refused unbound-variable at)
+pub variable-unbound : {proof ws : List ℕ} {floor used n kept : ℕ} {Γ : List Term} (at : ℕ) → kept ≡ floor → Found proof ws floor used n Γ kept
+    → Formed (variable-type Γ at n) (at + 1) ws ws (Refused unbound-variable at)
 variable-unbound {proof} {ws} {floor} {used} {n} {kept} {Γ} at e f =
     let z : kept - floor ≡ 0 = omega arith in
     let o : drop n Γ ≡ [] = no-binders proof (scope-words floor kept ws) (drop n Γ) (ap (λ (i : ℕ). take i (tail kept ws)) z) (f .binders) in
     let m : getElem? Γ n ≡ none = sym (first-of-rest Γ n) ∙ ap (λ (Δ : List Term). getElem? Δ 0) o in
-    refuses (variable-type Γ at n) unbound-variable at (at + 1) ws (ap (λ (o : Option Term). known unbound-variable at o >>= λ A. measured at (raise (suc n) A)) m)
+    refuses (variable-type Γ at n) unbound-variable at (at + 1) ws
+    (ap (λ (o : Option Term). known unbound-variable at o >>= λ A. measured at (raise (suc n) A)) m)
 
 module _ {proof ws : List ℕ} {kept n : ℕ} {Γ : List Term} (at : ℕ) (e : Entry proof ws kept n Γ) where
   variable-is : variable-type Γ at n ≡ measured at (raise (suc n) (e .type))
@@ -122,29 +127,35 @@ module _ {proof ws : List ℕ} {kept n : ℕ} {Γ : List Term} (at : ℕ) (e : E
       refuses (variable-type Γ at n) type-too-long at (at + 1) ws (variable-is ∙ measured-long at (raise (suc n) (e .type)) (omega arith))
 
   -- what is looked up is the type's words
-  pub looked-up : {from : ℕ} {part : List ℕ} → from ≡ pick (ltb entry-head (getD ws (length ws - kept) 0)) (length ws - kept + (getD ws (length ws - kept) 0 - getD ws (length ws - kept + 2) 0)) (getD ws (length ws - kept + 1) 0)
+  pub looked-up : {from : ℕ} {part : List ℕ} → from ≡ pick (ltb entry-head (getD ws (length ws - kept) 0))
+      (length ws - kept + (getD ws (length ws - kept) 0 - getD ws (length ws - kept + 2) 0)) (getD ws (length ws - kept + 1) 0)
       → part ≡ partOf proof ws (ltb entry-head (getD ws (length ws - kept) 0)) from (from + getD ws (length ws - kept + 2) 0) → Is part (e .type)
   looked-up {from} {part} f p =
       let b : Bool = ltb entry-head (getD ws (length ws - kept) 0) in
       let h : At (pick b ws proof) from (e .type) = subst (λ (i : ℕ). At (pick b ws proof) i (e .type)) (sym f) (e .here) in
-      subst (λ (x : List ℕ). Is x (e .type)) (sym p) (record { plain = h .plain; words = part-is (from + getD ws (length ws - kept + 2) 0) h (ap (λ (k : ℕ). from + k) (e .type-words)) })
+      subst (λ (x : List ℕ). Is x (e .type)) (sym p) (record
+      { plain = h .plain; words = part-is (from + getD ws (length ws - kept + 2) 0) h (ap (λ (k : ℕ). from + k) (e .type-words)) })
 
   pub variable-found : {part new : List ℕ} {r : Derivation} → getD ws (length ws - kept + 2) 0 ≤ most-type-words → Is part (e .type)
-      → ((A : Term) → Is part A → PlainType (raise (suc n) A) → Formed (ok (raise (suc n) A)) (at + 1) ws new r) → Raises Γ n → Formed (variable-type Γ at n) (at + 1) ws new r
+      → ((A : Term) → Is part A → PlainType (raise (suc n) A) → Formed (ok (raise (suc n) A)) (at + 1) ws new r) → Raises Γ n
+      → Formed (variable-type Γ at n) (at + 1) ws new r
   variable-found {part} {new} {r} l i f h =
       let A : Term = e .type in
       let s : size (raise (suc n) (e .type)) ≡ getD ws (length ws - kept + 2) 0 = raised-words in
       let t : getD ws (length ws - kept + 2) 0 ≡ size A = e .type-words in
-      subst (λ (o : Result Term). Formed o (at + 1) ws new r) (sym (variable-is ∙ measured-fits at (raise (suc n) A) (omega arith))) (f A i (h A (e .known) (omega arith)))
+      subst (λ (o : Result Term). Formed o (at + 1) ws new r) (sym (variable-is ∙ measured-fits at (raise (suc n) A) (omega arith)))
+      (f A i (h A (e .known) (omega arith)))
 
 -- the raised type's words were written at the front
 pub raised-front : {z : ℤ} {ws part zeros raised new : List ℕ} {n w : ℕ} (at : ℕ) (A : Term) → size A ≤ most-type-words → z ≡ pos (suc n) → Is part A
-    → ((t : Term) → Is part t → Shifted t 0 z zeros 0 raised w) → new ≡ written ws 0 (take w raised) → PlainType (raise (suc n) A) → Formed (ok (raise (suc n) A)) (at + 1) ws new (Typed w (at + 1))
+    → ((t : Term) → Is part t → Shifted t 0 z zeros 0 raised w) → new ≡ written ws 0 (take w raised) → PlainType (raise (suc n) A)
+    → Formed (ok (raise (suc n) A)) (at + 1) ws new (Typed w (at + 1))
 raised-front {z} {ws} {part} {zeros} {raised} {new} {n} {w} at A l y i f c h =
     let s = f A i in
     let r : size (raise (suc n) A) ≡ size A = size-shift 0 (pos (suc n)) A in
     writes (ok (raise (suc n) A)) (raise (suc n) A) w (at + 1) ws ws new refl (s .count ∙ sym r) (omega arith) h refl
-    (c ∙ ap (written ws 0) (written-front zeros raised (encode (shift 0 z A)) w (s .words) (s .count ∙ sym (length-shift 0 z A)) ∙ ap (λ (v : ℤ). encode (shift 0 v A)) y))
+    (c ∙ ap (written ws 0) (written-front zeros raised (encode (shift 0 z A)) w (s .words) (s .count ∙ sym (length-shift 0 z A))
+    ∙ ap (λ (v : ℤ). encode (shift 0 v A)) y))
 
 -- ---- the machine's sum of a variable's number and a small amount
 

@@ -59,7 +59,8 @@ abbrev pub entered-answer : (at : ℕ) → Entered → Result (ℕ × ℕ)
 entered-answer at (Fits keep used) = ok (keep, used)
 entered-answer at (Fails number) = refused number at
 
--- the test passed: the entry of the binder, if any, is kept at the end, before what was; or it failed, and nothing was written
+-- the test passed: the entry of the binder, if any, is kept at the end, before what
+-- was; or it failed, and nothing was written
 abbrev pub Entry-kept : Result (Unit {0}) → Op → ℕ → (a A : Term) → (used : ℕ) → (old new : List ℕ) → Type 0
 Entry-kept (ok _) o at a A used old new = (tail (used + length (entry o at a A)) new ≡ entry o at a A ++ tail used old) × TypeAt new 0 A
 Entry-kept (refused m p) o at a A used old new = new ≡ old

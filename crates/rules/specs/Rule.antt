@@ -1,4 +1,5 @@
--- The rules of nodes with two children as one rule: the first child, a test on its type, the second child under the rule's binder if any, and the result. proofs/Uniform of crate `typing` shows that `infer` is this.
+-- The rules of nodes with two children as one rule: the first child, a test on its type, the second child under the
+-- rule's binder if any, and the result. proofs/Uniform of crate `typing` shows that `infer` is this.
 use Prim.Native.Nat.{ℕ, suc}
 use mathlib.Core.List.{List, _∷_}
 use lib.Dec.{eqb}
@@ -62,7 +63,9 @@ applied at d C b B = require (same B d) argument-mismatch at >> measured at (fil
 
 -- the result of a Bind, whose proof is said by a and whose body has the type B
 abbrev pub bound : ℕ → Term → Term → Result Term
-bound at a B = known condition-fails at (parts saysO B) >>= λ r. condition at (same (r .left) (raise 1 a)) >> (require (eqb (occurs 0 (r .right)) 0) variable-escapes at >> measured at (Says a (lower (r .right))))
+bound at a B =
+    known condition-fails at (parts saysO B) >>= λ r. condition at (same (r .left) (raise 1 a)) >>
+    (require (eqb (occurs 0 (r .right)) 0) variable-escapes at >> measured at (Says a (lower (r .right))))
 
 -- the node's type, from its children and their types
 unfoldable pub formed : Op → ℕ → (a b A B : Term) → Result Term

@@ -18,17 +18,21 @@ tail k ws = drop (length ws - k) ws
 abbrev pub scope-words : (floor used : ℕ) → List ℕ → List ℕ
 scope-words floor used ws = take (used - floor) (tail used ws)
 
--- an entry begins with three words: how many words it has, where the type stands in the proof, and how many words the type has
+-- an entry begins with three words: how many words it has, where the type stands in
+-- the proof, and how many words the type has
 abbrev pub entry-head : ℕ
 entry-head = 3
 
--- the words kept are those of binders of the types Γ, the nearest first. A type stands either in the proof's words or in the workspace, behind words x of the entry
+-- the words kept are those of binders of the types Γ, the nearest first. A type stands either in the proof's words or
+-- in the workspace, behind words x of the entry
 pub data Binders (proof : List ℕ) : List ℕ → List Term → Type 0 where
   no-binder : Binders proof [] []
   in-proof : {h : List ℕ} {Γ : List Term} {A : Term} {s : ℕ} → At proof s A → Binders proof h Γ → Binders proof (entry-head ∷ s ∷ size A ∷ h) (A ∷ Γ)
-  in-workspace : {h : List ℕ} {Γ : List Term} {A : Term} {s : ℕ} (x : List ℕ) → Plain A → 1 ≤ length x → Binders proof h Γ → Binders proof ((entry-head + (length x + size A)) ∷ s ∷ size A ∷ (x ++ (encode A ++ h))) (A ∷ Γ)
+  in-workspace : {h : List ℕ} {Γ : List Term} {A : Term} {s : ℕ} (x : List ℕ) → Plain A → 1 ≤ length x → Binders proof h Γ
+      → Binders proof ((entry-head + (length x + size A)) ∷ s ∷ size A ∷ (x ++ (encode A ++ h))) (A ∷ Γ)
 
--- the entry that is kept for the second child of a node o at the place `at`, whose first child a has the type A: of a Bind, its proof's type Says p q, with p raised over the binder
+-- the entry that is kept for the second child of a node o at the place `at`, whose first child a has the type A: of a
+-- Bind, its proof's type Says p q, with p raised over the binder
 abbrev pub entry : Op → (at : ℕ) → Term → Term → List ℕ
 entry saysO at a A = []
 entry piO at a A = entry-head ∷ (at + 1) ∷ size a ∷ []

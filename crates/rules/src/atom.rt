@@ -54,7 +54,8 @@ fn sort(tag: u32) -> u32
 // A constant's type is copied from the signature: the table says where it stands, behind its length word.
 fn constant(sig: &[u32], table: &[u32], ws: &mut [u32], n: usize, at: usize) -> Derivation
     requires { ⌜ Constants (now sig) (now table) (now ws) at ⌝ }
-    ensures { λ r. ⌜ ((Σ : List Term) → Declared (now (sig .entry)) (now (table .entry)) Σ → Formed (atom-type Σ at (constA n)) (at + 1) (now (ws .entry)) (now (ws .exit)) r) ⌝ }
+    ensures { λ r. ⌜ ((Σ : List Term) → Declared (now (sig .entry)) (now (table .entry)) Σ
+        → Formed (atom-type Σ at (constA n)) (at + 1) (now (ws .entry)) (now (ws .exit)) r) ⌝ }
 {
     if table.len() <= n {
         return Derivation::Refused {
@@ -77,7 +78,8 @@ fn constant(sig: &[u32], table: &[u32], ws: &mut [u32], n: usize, at: usize) -> 
 // The type of an atom's word.
 pub fn atom(sig: &[u32], table: &[u32], ws: &mut [u32], word: u32, at: usize) -> Derivation
     requires { ⌜ Constants (now sig) (now table) (now ws) at ⌝ }
-    ensures { λ r. ⌜ ((Σ : List Term) → (a : Atom) → Declared (now (sig .entry)) (now (table .entry)) Σ → word ≡ atomWord a → PlainAtom a → Formed (atom-type Σ at a) (at + 1) (now (ws .entry)) (now (ws .exit)) r) ⌝ }
+    ensures { λ r. ⌜ ((Σ : List Term) → (a : Atom) → Declared (now (sig .entry)) (now (table .entry)) Σ → word ≡ atomWord a → PlainAtom a
+        → Formed (atom-type Σ at a) (at + 1) (now (ws .entry)) (now (ws .exit)) r) ⌝ }
 {
     let tag = tag_of(word);
     if tag == TAG_CONSTANT {

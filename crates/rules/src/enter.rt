@@ -31,7 +31,8 @@ ghost use Rattle.words.specs.Typed.{TypeAt};
 ghost use Rattle.rules.specs.Scope.{entry-head, entry};
 ghost use Rattle.rules.specs.Enter.{Enters, Enterable, Entering, Kept, Keepable};
 
-// How many words at the front and at the end of the workspace are kept while the second child is derived; or the number with which the test fails.
+// How many words at the front and at the end of the workspace are kept while the second child is derived;
+// or the number with which the test fails.
 pub enum Entered {
     Fits { keep: usize, used: usize },
     Fails { number: u32 },
@@ -60,7 +61,8 @@ fn put_head(ws: &mut [u32], head: usize, total: usize, start: usize, size: usize
     ws[head + 2] = size as u32;
 }
 
-// Keeps the entry of a Pi or a Lam, whose domain stands in the proof from `start` up to `next`. Returns how many words are kept.
+// Keeps the entry of a Pi or a Lam, whose domain stands in the proof from `start` up to
+// `next`. Returns how many words are kept.
 fn keep_domain(ws: &mut [u32], used: usize, start: usize, next: usize) -> usize
     requires { ⌜ (used + entry-head ≤ length (now ws)) × (start ≤ next) × (next ≤ most-words) ⌝ }
     ensures { λ r. ⌜ Kept (entry-head ∷ start ∷ (next - start) ∷ []) used (now (ws .entry)) (now (ws .exit)) r ⌝ }
@@ -71,10 +73,12 @@ fn keep_domain(ws: &mut [u32], used: usize, start: usize, next: usize) -> usize
     kept
 }
 
-// Keeps the entry of a Bind, whose proof's type Says p q is the first n words of the workspace: its words, with p raised over the binder. Returns how many words are kept.
+// Keeps the entry of a Bind, whose proof's type Says p q is the first n words of the workspace: its words, with p
+// raised over the binder. Returns how many words are kept.
 fn keep_says(ws: &mut [u32], used: usize, n: usize) -> usize
     requires { ⌜ Keepable (now ws) used n ⌝ }
-    ensures { λ r. ⌜ ((at : ℕ) → (a p q : Term) → TypeAt (now (ws .entry)) 0 (Says p q) → n ≡ size (Says p q) → Kept (entry bindO at a (Says p q)) used (now (ws .entry)) (now (ws .exit)) r) ⌝ }
+    ensures { λ r. ⌜ ((at : ℕ) → (a p q : Term) → TypeAt (now (ws .entry)) 0 (Says p q) → n ≡ size (Says p q)
+        → Kept (entry bindO at a (Says p q)) used (now (ws .entry)) (now (ws .exit)) r) ⌝ }
 {
     let kept = used + (ENTRY_HEAD + n);
     let head = ws.len() - kept;
@@ -85,7 +89,8 @@ fn keep_says(ws: &mut [u32], used: usize, n: usize) -> usize
     kept
 }
 
-// Tests the type of a node's first child, and keeps what the second child and the result need. The first child of the node at `at` ends at `next` in the proof; its type is the first n words of the workspace.
+// Tests the type of a node's first child, and keeps what the second child and the result need. The first child of the
+// node at `at` ends at `next` in the proof; its type is the first n words of the workspace.
 pub fn enter(
     proof: &[u32],
     ws: &mut [u32],
@@ -95,7 +100,8 @@ pub fn enter(
     n: usize,
 ) -> Entered
     requires { ⌜ Enterable (now proof) (now ws) used at next n ⌝ }
-    ensures { λ r. ⌜ ((o : Op) → (a A : Term) → Enters (now (proof .entry)) (now (ws .entry)) at next n o a A → Entering o at a A n used (now (ws .entry)) (now (ws .exit)) r) ⌝ }
+    ensures { λ r. ⌜ ((o : Op) → (a A : Term) → Enters (now (proof .entry)) (now (ws .entry)) at next n o a A
+        → Entering o at a A n used (now (ws .entry)) (now (ws .exit)) r) ⌝ }
 {
     let word = proof[at];
     let tag = tag_of(word);

@@ -61,18 +61,22 @@ module _ (Σ : List Term) (sig : List ℕ) (at : ℕ) (l : at < length sig) wher
   no-words h = sym (at-word ∙ ap (λ (b : Bool). b && leb n most-constant-words && leb n (length ws) && passed (constant Σ (take n ws))) (lt-leb 1 n h))
 
   pub too-many : most-constant-words < n → false ≡ constant-at Σ (drop at sig)
-  too-many h = sym (at-word ∙ ap (λ (b : Bool). leb 1 n && b && leb n (length ws) && passed (constant Σ (take n ws))) (lt-leb n most-constant-words h) ∙ ap (λ (b : Bool). b && leb n (length ws) && passed (constant Σ (take n ws))) (and-false (leb 1 n)))
+  too-many h =
+      sym (at-word ∙ ap (λ (b : Bool). leb 1 n && b && leb n (length ws) && passed (constant Σ (take n ws))) (lt-leb n most-constant-words h)
+      ∙ ap (λ (b : Bool). b && leb n (length ws) && passed (constant Σ (take n ws))) (and-false (leb 1 n)))
 
   pub cut-off : length sig - (at + 1) < n → false ≡ constant-at Σ (drop at sig)
   cut-off h =
       let d : length ws < n = omega (arith, length-drop (at + 1) sig) in
-      sym (at-word ∙ ap (λ (b : Bool). leb 1 n && leb n most-constant-words && b && passed (constant Σ (take n ws))) (lt-leb n (length ws) d) ∙ ap (λ (b : Bool). b && passed (constant Σ (take n ws))) (and-false (leb 1 n && leb n most-constant-words)))
+      sym (at-word ∙ ap (λ (b : Bool). leb 1 n && leb n most-constant-words && b && passed (constant Σ (take n ws))) (lt-leb n (length ws) d)
+      ∙ ap (λ (b : Bool). b && passed (constant Σ (take n ws))) (and-false (leb 1 n && leb n most-constant-words)))
 
   module _ (some-word : 1 ≤ n) (not-more : n ≤ most-constant-words) (fits : n ≤ length sig - (at + 1)) where
     tests : constant-at Σ (drop at sig) ≡ passed (constant Σ (take n ws))
     tests =
         let d : n ≤ length ws = omega (arith, length-drop (at + 1) sig) in
-        at-word ∙ ap (λ (b : Bool). b && passed (constant Σ (take n ws))) (true-both (true-both (le-leb 1 n some-word) (le-leb n most-constant-words not-more)) (le-leb n (length ws) d))
+        at-word ∙ ap (λ (b : Bool). b && passed (constant Σ (take n ws)))
+        (true-both (true-both (le-leb 1 n some-word) (le-leb n most-constant-words not-more)) (le-leb n (length ws) d))
 
     pub known-type : passed (constant Σ (take n ws)) ≡ true → true ≡ constant-at Σ (drop at sig)
     known-type e = sym (tests ∙ e)
@@ -84,7 +88,8 @@ module _ (Σ : List Term) (sig : List ℕ) (at : ℕ) (l : at < length sig) wher
         typed t (ok A) e = absurd (clash (cc))
         typed t (refused m′ p′) e = refl
 
-        go : (r : Result Term) → (r >>= λ t. infer Σ [] 0 t) ≡ refused m p → passed (kind-test (r >>= λ t. infer Σ [] 0 t >>= λ A. ok (record { term = t; type = A }))) ≡ false
+        go : (r : Result Term) → (r >>= λ t. infer Σ [] 0 t) ≡ refused m p
+            → passed (kind-test (r >>= λ t. infer Σ [] 0 t >>= λ A. ok (record { term = t; type = A }))) ≡ false
         go (ok t) e = typed t (infer Σ [] 0 t) e
         go (refused m′ p′) e = refl
 
@@ -98,16 +103,20 @@ module _ (Σ : List Term) (sig : List ℕ) (at : ℕ) (l : at < length sig) wher
         typed : (t : Term) (r : Result Term) → r ≡ ok A → passed (kind-test (r >>= λ A. ok (record { term = t; type = A }))) ≡ same A KindP
         typed t r q = ap (λ r. passed (kind-test (r >>= λ A. ok (record { term = t; type = A })))) q ∙ test-is (same A KindP) t
 
-        go : (r : Result Term) → (r >>= λ t. infer Σ [] 0 t) ≡ ok A → passed (kind-test (r >>= λ t. infer Σ [] 0 t >>= λ A. ok (record { term = t; type = A }))) ≡ same A KindP
+        go : (r : Result Term) → (r >>= λ t. infer Σ [] 0 t) ≡ ok A
+            → passed (kind-test (r >>= λ t. infer Σ [] 0 t >>= λ A. ok (record { term = t; type = A }))) ≡ same A KindP
         go (ok t) e = typed t (infer Σ [] 0 t) e
         go (refused m′ p′) e = absurd (clash (cc))
 
-    pub not-typed : (new : List ℕ) (r : Derivation) (end m p : ℕ) → Judged (typed-term Σ most-words most-nesting (take n ws)) end new r → r ≡ Refused m p → false ≡ constant-at Σ (drop at sig)
+    pub not-typed : (new : List ℕ) (r : Derivation) (end m p : ℕ) → Judged (typed-term Σ most-words most-nesting (take n ws)) end new r → r ≡ Refused m p
+        → false ≡ constant-at Σ (drop at sig)
     not-typed new r end m p J q = sym (tests ∙ typed-refused m p (refused-by _ end (J .answer) m p q))
 
-    pub typed-kind : (new : List ℕ) (r : Derivation) (end words e : ℕ) (b : Bool) → Judged (typed-term Σ most-words most-nesting (take n ws)) end new r → r ≡ Typed words e
+    pub typed-kind : (new : List ℕ) (r : Derivation) (end words e : ℕ) (b : Bool) → Judged (typed-term Σ most-words most-nesting (take n ws)) end new r
+        → r ≡ Typed words e
         → ((A : Term) → TypeAt new 0 A → b ≡ same A KindP) → b ≡ constant-at Σ (drop at sig)
-    typed-kind new r end words e b J q f = typed-by _ end (J .answer) words e q λ A i w l. sym (tests ∙ typed-ok A i ∙ sym (f A (subst (λ (x : Result Term). Front x new) i (J .front))))
+    typed-kind new r end words e b J q f =
+        typed-by _ end (J .answer) words e q λ A i w l. sym (tests ∙ typed-ok A i ∙ sym (f A (subst (λ (x : Result Term). Front x new) i (J .front))))
 
 -- ---- the types of a permit and of a receipt
 
@@ -139,7 +148,8 @@ bad-constant k at Σ [] l e = absurd (omega arith)
 bad-constant k at Σ (n ∷ ws) l e = go (ltb (length Σ) most-constants) (listable n ws) refl refl e
   where
     go : (c b : Bool) → ltb (length Σ) most-constants ≡ c → listable n ws ≡ b → (b && passed (constant Σ (take n ws))) ≡ false
-        → (require (ltb (length Σ) most-constants && leb 1 n && leb n most-constant-words && leb n (length ws)) bad-signature at >> (at-constant at (constant Σ (take n ws)) >>= λ A. constants k (at + 1 + n) (Σ ++ (A ∷ [])) (drop n ws))) ≡ refused bad-signature at
+        → (require (ltb (length Σ) most-constants && leb 1 n && leb n most-constant-words && leb n (length ws)) bad-signature at >>
+        (at-constant at (constant Σ (take n ws)) >>= λ A. constants k (at + 1 + n) (Σ ++ (A ∷ [])) (drop n ws))) ≡ refused bad-signature at
     go false b p q f = require-false _ bad-signature at _ (ap (λ (x : Bool). x && leb 1 n && leb n most-constant-words && leb n (length ws)) p)
     go true false p q f = require-false _ bad-signature at _ (with-count _ n ws p ∙ q)
     go true true p q f = pass bad-signature at (with-count _ n ws p ∙ q) (no-constant (constant Σ (take n ws)) at _ f)
@@ -148,7 +158,8 @@ bad-constant k at Σ (n ∷ ws) l e = go (ltb (length Σ) most-constants) (lista
 full-list : (k at : ℕ) (Σ : List Term) (ws : List ℕ) → 0 < length ws → most-constants ≤ length Σ → constants (suc k) at Σ ws ≡ refused bad-signature at
 unfolding constants
 full-list k at Σ [] l h = absurd (omega arith)
-full-list k at Σ (n ∷ ws) l h = require-false _ bad-signature at _ (ap (λ (x : Bool). x && leb 1 n && leb n most-constant-words && leb n (length ws)) (le-ltb (length Σ) most-constants h))
+full-list k at Σ (n ∷ ws) l h =
+    require-false _ bad-signature at _ (ap (λ (x : Bool). x && leb 1 n && leb n most-constant-words && leb n (length ws)) (le-ltb (length Σ) most-constants h))
 
 -- one constant more, whose type A stands behind its length word
 pub record One (Σ : List Term) (k at : ℕ) (ws : List ℕ) : Type 0 where
@@ -178,7 +189,9 @@ one Σ sg k at (n ∷ ws) l e =
     record {
       type = A;
       kind = P .derivation;
-      goes-on = pass bad-signature at (with-count _ n ws (lt-ltb (length Σ) most-constants l) ∙ b) (ap (λ x. at-constant at x >>= λ A. constants k (at + 1 + n) (Σ ++ (A ∷ [])) (drop n ws)) q)
+      goes-on =
+          pass bad-signature at (with-count _ n ws (lt-ltb (length Σ) most-constants l) ∙ b)
+          (ap (λ x. at-constant at x >>= λ A. constants k (at + 1 + n) (Σ ++ (A ∷ [])) (drop n ws)) q)
           ∙ ap (λ (j : ℕ). constants k (at + 1 + n) (Σ ++ (A ∷ [])) (drop j (n ∷ ws))) (sym i);
       words = P .term .words;
       plain = P .term .plain;
@@ -205,7 +218,12 @@ pub reading-start : (sig table : List ℕ) → Reading sig table 0 0
 reading-start sig table = record {
   Σ = [];
   k = suc (length sig);
-  constants-are = record { declared = record { count = refl; type = λ n A e. absurd (no-entry e); length-word = λ n A e. absurd (no-entry e) }; signature = empty-signature };
+  constants-are =
+      record {
+        declared = record { count = refl; type = λ n A e. absurd (no-entry e); length-word = λ n A e. absurd (no-entry e) };
+        signature =
+            empty-signature;
+      };
   is = refl;
   enough = omega arith;
   counted = refl;
@@ -214,7 +232,8 @@ reading-start sig table = record {
 }
 
 -- the list is refused at a place
-refused-at : (sig table : List ℕ) (at k : ℕ) (Σ : List Term) (ws : List ℕ) → signature sig ≡ constants k at Σ ws → 0 < k → ((k : ℕ) → constants (suc k) at Σ ws ≡ refused bad-signature at) → Read-as (signature sig) sig table (Bad at)
+refused-at : (sig table : List ℕ) (at k : ℕ) (Σ : List Term) (ws : List ℕ) → signature sig ≡ constants k at Σ ws → 0 < k
+    → ((k : ℕ) → constants (suc k) at Σ ws ≡ refused bad-signature at) → Read-as (signature sig) sig table (Bad at)
 refused-at sig table at zero Σ ws e l f = absurd (omega arith)
 refused-at sig table at (suc k) Σ ws e l f = let q = e ∙ f k in record { answer = sym (stop _ q); constants = λ Σ i. absurd (not-ok (sym q ∙ i)) }
 
@@ -223,10 +242,13 @@ module _ (sig table : List ℕ) (at count : ℕ) (R : Reading sig table at count
   more-words l = omega (arith, length-drop at sig)
 
   pub reading-full : (new : List ℕ) → at < length sig → most-constants ≤ count → Read-as (signature sig) sig new (Bad at)
-  reading-full new l h = refused-at sig new at (R .k) (R .Σ) (drop at sig) (R .is) (omega (arith, R .enough)) (λ k. full-list k at (R .Σ) (drop at sig) (more-words l) (omega (arith, R .counted)))
+  reading-full new l h =
+      refused-at sig new at (R .k) (R .Σ) (drop at sig) (R .is) (omega (arith, R .enough))
+      (λ k. full-list k at (R .Σ) (drop at sig) (more-words l) (omega (arith, R .counted)))
 
   pub reading-bad : (new : List ℕ) → at < length sig → constant-at (R .Σ) (drop at sig) ≡ false → Read-as (signature sig) sig new (Bad at)
-  reading-bad new l h = refused-at sig new at (R .k) (R .Σ) (drop at sig) (R .is) (omega (arith, R .enough)) (λ k. bad-constant k at (R .Σ) (drop at sig) (more-words l) h)
+  reading-bad new l h =
+      refused-at sig new at (R .k) (R .Σ) (drop at sig) (R .is) (omega (arith, R .enough)) (λ k. bad-constant k at (R .Σ) (drop at sig) (more-words l) h)
 
   pub reading-done : length sig ≤ at → Read-as (signature sig) sig table (Accepted count)
   reading-done l = go (R .k) (R .is) (omega (arith, R .enough))
@@ -237,15 +259,20 @@ module _ (sig table : List ℕ) (at count : ℕ) (R : Reading sig table at count
           let q : signature sig ≡ ok (R .Σ) = e ∙ ap (constants (suc k) at (R .Σ)) (drop-of-length-le sig l) ∙ ended k at (R .Σ) in
           record {
             answer = ap ok (R .counted) ∙ sym (bind-is _ q refl);
-            constants = λ Σ i. subst (λ (Σ : List Term). Constants-of sig (take (length Σ) table) Σ) (ok-inj (sym q ∙ i)) (subst (λ (n : ℕ). Constants-of sig (take n table) (R .Σ)) (R .counted) (R .constants-are));
+            constants =
+                λ Σ i. subst (λ (Σ : List Term). Constants-of sig (take (length Σ) table) Σ) (ok-inj (sym q ∙ i))
+                (subst (λ (n : ℕ). Constants-of sig (take n table) (R .Σ)) (R .counted) (R .constants-are));
           }
 
 -- the table with the place of one type more
-module _ (sig table : List ℕ) (x : ℕ) (Σ : List Term) (A : Term) (D : Declared sig table Σ) (here : At sig x A) (one-before : 1 ≤ x) (length-there : getD sig (x - 1) 0 ≡ size A) where
-  entry-of : (P : Term → ℕ → Type 0) → ((n : ℕ) (B : Term) → getElem? Σ n ≡ some B → P B (getD table n 0)) → P A x → (n : ℕ) (B : Term) → getElem? (Σ ++ (A ∷ [])) n ≡ some B → P B (getD (table ++ (x ∷ [])) n 0)
+module _ (sig table : List ℕ) (x : ℕ) (Σ : List Term) (A : Term) (D : Declared sig table Σ) (here : At sig x A) (one-before : 1 ≤ x)
+    (length-there : getD sig (x - 1) 0 ≡ size A) where
+  entry-of : (P : Term → ℕ → Type 0) → ((n : ℕ) (B : Term) → getElem? Σ n ≡ some B → P B (getD table n 0)) → P A x → (n : ℕ) (B : Term)
+      → getElem? (Σ ++ (A ∷ [])) n ≡ some B → P B (getD (table ++ (x ∷ [])) n 0)
   entry-of P old new n B e = elim (entry-last Σ n e) [
     | inl (l, q) ↦ (let h : n < length table = omega (arith, D .count) in subst (P B) (sym (List·getD-append table (x ∷ []) 0 n h)) (old n B q))
-    | inr (h, q) ↦ (let k : n ≡ length table = h ∙ sym (D .count) in subst (P B) (sym (ap (λ (i : ℕ). getD (table ++ (x ∷ [])) i 0) k ∙ getD-append-seam table x [] 0)) (subst (λ (B : Term). P B x) q new))
+    | inr (h, q) ↦ (let k : n ≡ length table = h ∙ sym (D .count) in subst (P B)
+        (sym (ap (λ (i : ℕ). getD (table ++ (x ∷ [])) i 0) k ∙ getD-append-seam table x [] 0)) (subst (λ (B : Term). P B x) q new))
   ]
 
   more-declared : Declared sig (table ++ (x ∷ [])) (Σ ++ (A ∷ []))
@@ -255,7 +282,8 @@ module _ (sig table : List ℕ) (x : ℕ) (Σ : List Term) (A : Term) (D : Decla
     length-word = entry-of (λ B i. (1 ≤ i) × (getD sig (i - 1) 0 ≡ size B)) (D .length-word) (one-before, length-there);
   }
 
-module _ (sig table : List ℕ) (at count : ℕ) (R : Reading sig table at count) (l : at < length sig) (few : count < most-constants) (entries : length table ≡ most-constants) (fine : constant-at (R .Σ) (drop at sig) ≡ true) where
+module _ (sig table : List ℕ) (at count : ℕ) (R : Reading sig table at count) (l : at < length sig) (few : count < most-constants)
+    (entries : length table ≡ most-constants) (fine : constant-at (R .Σ) (drop at sig) ≡ true) where
   abbrev words-there : ℕ
   words-there = getD sig at 0
 
@@ -293,12 +321,18 @@ module _ (sig table : List ℕ) (at count : ℕ) (R : Reading sig table at count
     reading-on : (K : R .k ≡ suc k) → Reading sig (set table count (at + 1)) (at + 1 + words-there) (count + 1)
     reading-on K =
         let b : at + 1 - 1 ≡ at = omega arith in
-        let d = more-declared sig (take count table) (at + 1) (R .Σ) (O .type) (R .constants-are .declared) type-there (omega arith) (ap (λ (i : ℕ). getD sig i 0) b ∙ type-size) in
+        let d = more-declared sig (take count table) (at + 1) (R .Σ) (O .type) (R .constants-are .declared) type-there (omega arith)
+        (ap (λ (i : ℕ). getD sig i 0) b ∙ type-size) in
         let w : at + (1 + words-there) ≡ at + 1 + words-there = omega arith in
         record {
           Σ = R .Σ ++ (O .type ∷ []);
           k = k;
-          constants-are = record { declared = subst (λ (x : List ℕ). Declared sig x (R .Σ ++ (O .type ∷ []))) (sym more-table) d; signature = extend (R .constants-are .signature) (O .kind) };
+          constants-are =
+              record {
+                declared = subst (λ (x : List ℕ). Declared sig x (R .Σ ++ (O .type ∷ []))) (sym more-table) d;
+                signature = extend
+                    (R .constants-are .signature) (O .kind);
+              };
           is = R .is ∙ ap (λ (i : ℕ). constants i at (R .Σ) (drop at sig)) K ∙ O .goes-on
               ∙ ap (λ (i : ℕ). constants k (at + 1 + i) (R .Σ ++ (O .type ∷ [])) (drop (1 + i) (drop at sig))) first-word
               ∙ ap (constants k (at + 1 + words-there) (R .Σ ++ (O .type ∷ []))) (drop-drop (1 + words-there) at sig ∙ ap (λ (i : ℕ). drop i sig) w);

@@ -26,10 +26,13 @@ pub no-constant : {sig table : List ℕ} {Σ : List Term} (i : ℕ) (A : Term) �
 no-constant {Σ} i A l d = sym (ap (is-type A) (no-element Σ i (omega (arith, d .count))))
 
 -- the words of its type, from its place up to `end`, were compared with those of A
-pub compared : {sig table : List ℕ} {Σ : List Term} {i : ℕ} (C : ConstantAt sig table i Σ) (A : Term) (words : List ℕ) (end : ℕ) (r : Bool) → end ≡ getD table i 0 + getD sig (getD table i 0 - 1) 0 → words ≡ encode A → InRange A
-    → (r ≡ true → take (end - getD table i 0) (drop (getD table i 0) sig) ≡ words) × (take (end - getD table i 0) (drop (getD table i 0) sig) ≡ words → r ≡ true) → r ≡ is-type A (getElem? Σ i)
+pub compared : {sig table : List ℕ} {Σ : List Term} {i : ℕ} (C : ConstantAt sig table i Σ) (A : Term) (words : List ℕ) (end : ℕ) (r : Bool)
+    → end ≡ getD table i 0 + getD sig (getD table i 0 - 1) 0 → words ≡ encode A → InRange A
+    → (r ≡ true → take (end - getD table i 0) (drop (getD table i 0) sig) ≡ words) × (take (end - getD table i 0) (drop (getD table i 0) sig) ≡ words
+    → r ≡ true) → r ≡ is-type A (getElem? Σ i)
 compared {table} {i} C A words end r e w g f =
-    same-types _ words (C .type) A r (part-is end (C .here) (e ∙ ap (λ (k : ℕ). getD table i 0 + k) (C .words))) w (plain-in-range (C .type) (C .here .plain)) g (f .0) (f .1) ∙ sym (ap (is-type A) (C .entry))
+    same-types _ words (C .type) A r (part-is end (C .here) (e ∙ ap (λ (k : ℕ). getD table i 0 + k) (C .words))) w (plain-in-range (C .type) (C .here .plain))
+    g (f .0) (f .1) ∙ sym (ap (is-type A) (C .entry))
 
 -- ---- the operations
 
@@ -55,14 +58,17 @@ module _ (Σ : List Term) where
     no-operation l = sym (ap (λ (b : Bool). b && leb n most-operations && operations Σ n) (lt-leb 1 n l))
 
     pub too-many-operations : most-operations < n → false ≡ operations-test Σ n
-    too-many-operations l = sym (ap (λ (b : Bool). leb 1 n && b && operations Σ n) (lt-leb n most-operations l) ∙ ap (λ (b : Bool). b && operations Σ n) (and-false (leb 1 n)))
+    too-many-operations l =
+        sym (ap (λ (b : Bool). leb 1 n && b && operations Σ n) (lt-leb n most-operations l) ∙ ap (λ (b : Bool). b && operations Σ n) (and-false (leb 1 n)))
 
     refused-operations : operations Σ n ≡ false → false ≡ operations-test Σ n
     refused-operations e = sym (ap (λ (b : Bool). leb 1 n && leb n most-operations && b) e ∙ and-false (leb 1 n && leb n most-operations))
 
     pub no-permit : (i : ℕ) → i < n → permitted i ≡ false → false ≡ operations-test Σ n
     unfolding operations
-    no-permit i l e = refused-operations (spoilt n i l (ap (λ (b : Bool). operations Σ i && b && received i) e ∙ ap (λ (b : Bool). b && received i) (and-false (operations Σ i))))
+    no-permit i l e =
+        refused-operations (spoilt n i l (ap (λ (b : Bool). operations Σ i && b && received i) e
+        ∙ ap (λ (b : Bool). b && received i) (and-false (operations Σ i))))
 
     pub no-receipt : (i : ℕ) → i < n → received i ≡ false → false ≡ operations-test Σ n
     unfolding operations

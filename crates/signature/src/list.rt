@@ -43,7 +43,8 @@ fn common(words: &[u32]) -> bool
     same(words, &receipt)
 }
 
-// Whether the list goes on at `at` with a length word of 1 to 256 and as many words of a type that passes the check with type KindP.
+// Whether the list goes on at `at` with a length word of 1 to 256 and as many words of a
+// type that passes the check with type KindP.
 fn constant(sig: &[u32], table: &[u32], at: usize, ws: &mut [u32]) -> bool
     requires { ⌜ Listable (now sig) (now table) (now ws) at ⌝ }
     ensures { λ r. ⌜ ((Σ : List Term) → Constants-of (now (sig .entry)) (now (table .entry)) Σ → r ≡ constant-at Σ (drop at (now (sig .entry)))) ⌝ }

@@ -17,7 +17,8 @@ ghost use Rattle.signature.specs.Listing.{Declares};
 // Whether constant i is there and its type has exactly the words given.
 fn constant_is(sig: &[u32], table: &[u32], i: usize, words: &[u32]) -> bool
     requires { ⌜ Declares (now sig) (now table) ⌝ }
-    ensures { λ r. ⌜ ((Σ : List Term) → (A : Term) → Declared (now (sig .entry)) (now (table .entry)) Σ → now (words .entry) ≡ encode A → InRange A → r ≡ is-type A (getElem? Σ i)) ⌝ }
+    ensures { λ r. ⌜ ((Σ : List Term) → (A : Term) → Declared (now (sig .entry)) (now (table .entry)) Σ → now (words .entry) ≡ encode A → InRange A
+        → r ≡ is-type A (getElem? Σ i)) ⌝ }
 {
     if table.len() <= i {
         return false;
@@ -27,7 +28,8 @@ fn constant_is(sig: &[u32], table: &[u32], i: usize, words: &[u32]) -> bool
     same(&sig[start..end], words)
 }
 
-// Whether operations 0 to n - 1, at least one and at most 8, have their permits, Pi S P, and their receipts, Pi S Pi S P.
+// Whether operations 0 to n - 1, at least one and at most 8, have their
+// permits, Pi S P, and their receipts, Pi S Pi S P.
 pub fn operations(sig: &[u32], table: &[u32], n: u32) -> bool
     requires { ⌜ Declares (now sig) (now table) ⌝ }
     ensures { λ r. ⌜ ((Σ : List Term) → Declared (now (sig .entry)) (now (table .entry)) Σ → r ≡ operations-test Σ n) ⌝ }

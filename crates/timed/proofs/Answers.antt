@@ -34,7 +34,8 @@ module _ (workspace : ℕ) (sig term : List ℕ) where
     pub bad : (table : List ℕ) (r : Listed) (p : ℕ) → Read-as (signature sig) sig table r → r ≡ Bad p → bad-signature ≡ number-of (tested workspace sig term)
     bad table r p R q = sym (ap number-of (past ∙ stop _ (list-refused sig table p r R q)))
 
-    module _ (table : List ℕ) (count : ℕ) (C : Constants-read sig table count) (end : ℕ) (new : List ℕ) (d : Derivation) (J : Judged (typed-term (C .Σ) most-words most-nesting term) end new d) where
+    module _ (table : List ℕ) (count : ℕ) (C : Constants-read sig table count) (end : ℕ) (new : List ℕ) (d : Derivation)
+        (J : Judged (typed-term (C .Σ) most-words most-nesting term) end new d) where
       of-type : tested workspace sig term ≡ typed-term (C .Σ) most-words most-nesting term
       of-type = past ∙ ap rest (C .is)
 

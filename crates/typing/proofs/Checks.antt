@@ -44,19 +44,26 @@ require-false false m p r e = refl
 
 module _ (Σ : List Term) (most deep : ℕ) (ws new : List ℕ) where
   pub empty-term : length ws < 1 → Judged (typed-term Σ most deep ws) (length ws) new (Refused term-length 0)
-  empty-term h = judged-refused _ _ new term-length 0 (ap (λ x. x >>= λ t. infer Σ [] 0 t) (require-false (leb 1 (length ws) && leb (length ws) most) term-length 0 _ (ap (λ (x : Bool). x && leb (length ws) most) (lt-leb 1 (length ws) h))))
+  empty-term h =
+      judged-refused _ _ new term-length 0 (ap (λ x. x >>= λ t. infer Σ [] 0 t)
+      (require-false (leb 1 (length ws) && leb (length ws) most) term-length 0 _ (ap (λ (x : Bool). x && leb (length ws) most) (lt-leb 1 (length ws) h))))
 
   pub long-term : most < length ws → Judged (typed-term Σ most deep ws) (length ws) new (Refused term-length 0)
-  long-term h = judged-refused _ _ new term-length 0 (ap (λ x. x >>= λ t. infer Σ [] 0 t) (require-false (leb 1 (length ws) && leb (length ws) most) term-length 0 _ (ap (λ (x : Bool). leb 1 (length ws) && x) (lt-leb (length ws) most h) ∙ and-false (leb 1 (length ws)))))
+  long-term h =
+      judged-refused _ _ new term-length 0 (ap (λ x. x >>= λ t. infer Σ [] 0 t)
+      (require-false (leb 1 (length ws) && leb (length ws) most) term-length 0 _
+      (ap (λ (x : Bool). leb 1 (length ws) && x) (lt-leb (length ws) most h) ∙ and-false (leb 1 (length ws)))))
 
   module _ (some-word : 1 ≤ length ws) (not-more : length ws ≤ most) where
     in-range : (leb 1 (length ws) && leb (length ws) most) ≡ true
     in-range = true-both (le-leb 1 (length ws) some-word) (le-leb (length ws) most not-more)
 
-    pub malformed-term : (place : ℕ) → whole (read-whole ws) ≡ refused malformed place → Judged (typed-term Σ most deep ws) (length ws) new (Refused malformed place)
+    pub malformed-term : (place : ℕ) → whole (read-whole ws) ≡ refused malformed place
+        → Judged (typed-term Σ most deep ws) (length ws) new (Refused malformed place)
     malformed-term place e =
         let h = whole-malformed ws place e in
-        judged-refused _ _ new malformed place (ap (λ x. x >>= λ t. infer Σ [] 0 t) (pass term-length 0 in-range (ap (λ x. x >>= λ t. nowhere nesting (too-deep deep 0 t) >> ok t) h)))
+        judged-refused _ _ new malformed place (ap (λ x. x >>= λ t. infer Σ [] 0 t)
+        (pass term-length 0 in-range (ap (λ x. x >>= λ t. nowhere nesting (too-deep deep 0 t) >> ok t) h)))
 
     module _ (t : Term) (is : read-whole ws ≡ ok t) where
       read-term : typed-term Σ most deep ws ≡ ((nowhere nesting (too-deep deep 0 t) >> ok t) >>= λ t. infer Σ [] 0 t)
@@ -81,7 +88,8 @@ pub term-in : (ws : List ℕ) (end : ℕ) → whole (read-whole ws) ≡ ok end �
 term-in ws end e = let (t, f, i, n) = whole-term ws end e in record { term = t; read = f; is = i }
 
 -- with no binders, a term that is not too deep is ready
-pub ready-term : (sig table proof ws : List ℕ) (deep : ℕ) (Σ : List Term) (t : Term) → Constants-of sig table Σ → Is proof t → too-deep deep 0 t ≡ none → deep ≤ most-nesting → Ready sig table proof ws 0 0 0 deep Σ [] t
+pub ready-term : (sig table proof ws : List ℕ) (deep : ℕ) (Σ : List Term) (t : Term) → Constants-of sig table Σ → Is proof t → too-deep deep 0 t ≡ none
+    → deep ≤ most-nesting → Ready sig table proof ws 0 0 0 deep Σ [] t
 ready-term sig table proof ws deep Σ t C i h l = record {
   declared = C .declared;
   signature = C .signature;
@@ -92,7 +100,8 @@ ready-term sig table proof ws deep Σ t C i h l = record {
   few = omega arith;
 }
 
-pub judged-term : (o o′ : Result Term) (ws old new : List ℕ) (t : Term) (r : Derivation) → o ≡ o′ → Is ws t → Derived o′ (0 + size t) 0 old new r → Judged o (length ws) new r
+pub judged-term : (o o′ : Result Term) (ws old new : List ℕ) (t : Term) (r : Derivation) → o ≡ o′ → Is ws t → Derived o′ (0 + size t) 0 old new r
+    → Judged o (length ws) new r
 judged-term o o′ ws old new t r e i d =
     let n : 0 + size t ≡ length ws = omega (arith, size-is ws t i) in
     subst (λ (x : Result Term). Judged x (length ws) new r) (sym e) (record { answer = d .answer ∙ ap (ended o′) n; front = d .front })

@@ -1,4 +1,5 @@
--- The derivation of a term's type, step by step: what holds where each child has its type, and what follows for the whole.
+-- The derivation of a term's type, step by step: what holds where each child has
+-- its type, and what follows for the whole.
 use Prim.Native.Nat.{ℕ, suc, _+_, _-_, _*_, _≤_}
 use native.Mathlib.Omega.{arith}
 use mathlib.Core.Path.{_≡_, refl, sym, ap, ap₂, subst, subst₂, _∙_}
@@ -12,7 +13,8 @@ use Rattle.logic.specs.Limits.{most-words, most-type-words}
 use Rattle.logic.specs.Refusals.{unbound-variable}
 use Rattle.logic.specs.Result.{Result, ok, refused, _>>=_, _>>_, known}
 use Rattle.logic.specs.Kind.{kind-atom, kind-variable, kind-sign}
-use Rattle.logic.specs.Term.{Atom, Op, saysO, piO, lamO, appO, retO, bindO, Term, atom, var, sign, node, P, Says, Pi, payload-of, atomWord, opWord, encode, size}
+use Rattle.logic.specs.Term.{Atom, Op, saysO, piO, lamO, appO, retO, bindO, Term, atom, var, sign, node, P, Says, Pi, payload-of, atomWord, opWord}
+use Rattle.logic.specs.Term.{encode, size}
 use Rattle.logic.specs.Move.{raise, fill}
 use Rattle.logic.specs.Typing.{Has, of-prop}
 use Rattle.logic.specs.Scope.{Context, no-binder, binder}
@@ -58,18 +60,24 @@ pub record Answered (o : Result Term) (end : ℕ) (new : List ℕ) (n e : ℕ) :
   pub ends : e ≡ end
   pub front : TypeAt new 0 type
 
-pub typed-is : (o : Result Term) (end used : ℕ) (old new : List ℕ) (r : Derivation) (n e : ℕ) → Derived o end used old new r → r ≡ Typed n e → Answered o end new n e
-typed-is o end used old new r n e d q = typed-by o end (d .answer) n e q λ A i w l. record { type = A; is = i; words = w; ends = l; front = subst (λ (x : Result Term). Front x new) i (d .front) }
+pub typed-is : (o : Result Term) (end used : ℕ) (old new : List ℕ) (r : Derivation) (n e : ℕ) → Derived o end used old new r → r ≡ Typed n e
+    → Answered o end new n e
+typed-is o end used old new r n e d q =
+    typed-by o end (d .answer) n e q λ A i w l. record { type = A; is = i; words = w; ends = l; front = subst (λ (x : Result Term). Front x new) i (d .front) }
 
-pub refused-is : (o : Result Term) (end used : ℕ) (old new : List ℕ) (r : Derivation) (m p : ℕ) → Derived o end used old new r → r ≡ Refused m p → o ≡ refused m p
+pub refused-is : (o : Result Term) (end used : ℕ) (old new : List ℕ) (r : Derivation) (m p : ℕ) → Derived o end used old new r → r ≡ Refused m p
+    → o ≡ refused m p
 refused-is o end used old new r m p d q = refused-by o end (d .answer) m p q
 
 -- a rule that wrote only the front left the words kept at the end
-pub from-front : (o : Result Term) (end used : ℕ) (old new : List ℕ) (r : Derivation) → length new ≡ length old → used + front-words ≤ length old → Formed o end old new r → Derived o end used old new r
+pub from-front : (o : Result Term) (end used : ℕ) (old new : List ℕ) (r : Derivation) → length new ≡ length old → used + front-words ≤ length old
+    → Formed o end old new r → Derived o end used old new r
 from-front o end used old new r e l f = record { answer = f .answer; front = f .front; kept = tail-kept used front-words old new e (f .rest) (omega arith) }
 
-pub refused-derived : (o : Result Term) (end used : ℕ) (old new : List ℕ) (r : Derivation) (m p : ℕ) → o ≡ refused m p → r ≡ Refused m p → tail used new ≡ tail used old → Derived o end used old new r
-refused-derived o end used old new r m p e q k = subst (λ (x : Result Term). Derived x end used old new r) (sym e) (record { answer = ap derivation-answer q; front = tt; kept = k })
+pub refused-derived : (o : Result Term) (end used : ℕ) (old new : List ℕ) (r : Derivation) (m p : ℕ) → o ≡ refused m p → r ≡ Refused m p
+    → tail used new ≡ tail used old → Derived o end used old new r
+refused-derived o end used old new r m p e q k =
+    subst (λ (x : Result Term). Derived x end used old new r) (sym e) (record { answer = ap derivation-answer q; front = tt; kept = k })
 
 -- what stands behind an entry
 tail-behind : (used kept : ℕ) (x e y : List ℕ) → kept ≡ used + length e → kept ≤ length x → tail kept x ≡ e ++ y → tail used x ≡ y
@@ -90,7 +98,9 @@ type-before : (n : ℕ) (ws part : List ℕ) (A : Term) → n ≡ size A → Typ
 type-before n ws part A e h = record {
   plain = h .plain;
   rest = part;
-  words = whole-is n ws part ∙ ap (λ (x : List ℕ). x ++ part) (ap₂ (λ (i : ℕ) (x : List ℕ). take i x) e (h .words) ∙ take-at (encode A) (h .rest) (size A) (encode-size A));
+  words =
+      whole-is n ws part ∙ ap (λ (x : List ℕ). x ++ part) (ap₂ (λ (i : ℕ) (x : List ℕ). take i x) e (h .words)
+      ∙ take-at (encode A) (h .rest) (size A) (encode-size A));
 }
 
 -- ---- the names in scope
@@ -108,12 +118,15 @@ binders-named (in-proof {A} a b) = (in-range-named A (plain-in-range A (a .plain
 binders-named (in-workspace {A} x p l b) = (in-range-named A (plain-in-range A p), binders-named b)
 
 -- what the check gives for a term that is ready
-pub type-of : {sig table proof ws : List ℕ} {floor used at left : ℕ} {Σ Γ : List Term} {t A : Term} → Ready sig table proof ws floor used at left Σ Γ t → infer Σ Γ at t ≡ ok A → PlainType A × (size A ≤ most-type-words)
-type-of {sig} {table} {at} {Σ} {Γ} {t} r e = inferred (r .signature) (declared-named sig table Σ (r .declared)) (r .context) (binders-named (r .binders)) (omega (arith, r .few)) t at (r .here .plain) e
+pub type-of : {sig table proof ws : List ℕ} {floor used at left : ℕ} {Σ Γ : List Term} {t A : Term} → Ready sig table proof ws floor used at left Σ Γ t
+    → infer Σ Γ at t ≡ ok A → PlainType A × (size A ≤ most-type-words)
+type-of {sig} {table} {at} {Σ} {Γ} {t} r e =
+    inferred (r .signature) (declared-named sig table Σ (r .declared)) (r .context) (binders-named (r .binders)) (omega (arith, r .few)) t at (r .here .plain) e
 
 -- ---- a Sign
 
-pub sign-ready : {sig table proof ws : List ℕ} {floor used at left : ℕ} {Σ Γ : List Term} {n : ℕ} {q : Term} → Ready sig table proof ws floor used at left Σ Γ (sign n q) → Ready sig table proof ws used used (at + 1) (left - 1) Σ [] q
+pub sign-ready : {sig table proof ws : List ℕ} {floor used at left : ℕ} {Σ Γ : List Term} {n : ℕ} {q : Term}
+    → Ready sig table proof ws floor used at left Σ Γ (sign n q) → Ready sig table proof ws used used (at + 1) (left - 1) Σ [] q
 unfolding depth
 sign-ready {proof} {ws} {used} r = record {
   declared = r .declared;
@@ -144,7 +157,8 @@ pub record Inside (mid mid2 : List ℕ) (used at n keep kept : ℕ) (o : Op) (a 
   pub entered : tail kept mid2 ≡ entry o at a A ++ tail used mid
   pub front : TypeAt mid2 0 A
 
-pub inside : (o : Op) (at : ℕ) (a A : Term) (n used : ℕ) (mid mid2 : List ℕ) (r : Entered) (keep kept : ℕ) → Entering o at a A n used mid mid2 r → r ≡ Fits keep kept → Inside mid mid2 used at n keep kept o a A
+pub inside : (o : Op) (at : ℕ) (a A : Term) (n used : ℕ) (mid mid2 : List ℕ) (r : Entered) (keep kept : ℕ) → Entering o at a A n used mid mid2 r
+    → r ≡ Fits keep kept → Inside mid mid2 used at n keep kept o a A
 inside o at a A n used mid mid2 r keep kept e q = followed (ready o at A) _ (sym (e .answer) ∙ ap (entered-answer at) q) λ u i j.
     let v : _≡_ {A = ℕ × ℕ} (keep-of o n, used + length (entry o at a A)) (keep, kept) = ok-inj j in
     let k : kept ≡ used + length (entry o at a A) = sym (ap (λ (x : ℕ × ℕ). x .1) v) in
@@ -156,7 +170,8 @@ record Failed (mid mid2 : List ℕ) (o : Op) (at : ℕ) (A : Term) (m : ℕ) : T
   fails : ready o at A ≡ refused m at
   unchanged : mid2 ≡ mid
 
-failed : (o : Op) (at : ℕ) (a A : Term) (n used : ℕ) (mid mid2 : List ℕ) (r : Entered) (m : ℕ) → Entering o at a A n used mid mid2 r → r ≡ Fails m → Failed mid mid2 o at A m
+failed : (o : Op) (at : ℕ) (a A : Term) (n used : ℕ) (mid mid2 : List ℕ) (r : Entered) (m : ℕ) → Entering o at a A n used mid mid2 r → r ≡ Fails m
+    → Failed mid mid2 o at A m
 failed o at a A n used mid mid2 r m e q = stopped-then (ready o at A) _ (sym (e .answer) ∙ ap (entered-answer at) q)
     (λ i. record { fails = i; unchanged = subst (λ (x : Result (Unit {0})). Entry-kept x o at a A used mid mid2) i (e .kept) })
     λ u i j. absurd (not-refused j)
@@ -200,7 +215,8 @@ says-plain p q (inr (inl e)) = absurd (clash (cc))
 says-plain p q (inr (inr e)) = absurd (clash (cc))
 
 -- the entry of a binder, before those of the others, is that of one binder more
-pub binders-more : {proof h : List ℕ} {Γ : List Term} (o : Op) (at : ℕ) (a A : Term) → At proof (at + 1) a → PlainType A → ready o at A ≡ ok tt → Binders proof h Γ → Binders proof (entry o at a A ++ h) (within o a A Γ)
+pub binders-more : {proof h : List ℕ} {Γ : List Term} (o : Op) (at : ℕ) (a A : Term) → At proof (at + 1) a → PlainType A → ready o at A ≡ ok tt
+    → Binders proof h Γ → Binders proof (entry o at a A ++ h) (within o a A Γ)
 unfolding size
 binders-more saysO at a A i p e b = b
 binders-more piO at a A i p e b = in-proof i b
@@ -243,12 +259,15 @@ module _ (Σ Γ : List Term) (at : ℕ) (o : Op) (a b : Term) where
 
 -- what a derivation ensures
 abbrev pub Derives : (sig table proof old : List ℕ) → (floor used at left : ℕ) → (new : List ℕ) → Derivation → Type 0
-Derives sig table proof old floor used at left new r = (Σ Γ : List Term) → (t : Term) → Ready sig table proof old floor used at left Σ Γ t → Derived (infer Σ Γ at t) (at + size t) used old new r
+Derives sig table proof old floor used at left new r =
+    (Σ Γ : List Term) → (t : Term) → Ready sig table proof old floor used at left Σ Γ t → Derived (infer Σ Γ at t) (at + size t) used old new r
 
-pub carried : {sig table proof old : List ℕ} {floor used at left : ℕ} {new new′ : List ℕ} {r r′ : Derivation} → new′ ≡ new → r′ ≡ r → Derives sig table proof old floor used at left new r → Derives sig table proof old floor used at left new′ r′
+pub carried : {sig table proof old : List ℕ} {floor used at left : ℕ} {new new′ : List ℕ} {r r′ : Derivation} → new′ ≡ new → r′ ≡ r
+    → Derives sig table proof old floor used at left new r → Derives sig table proof old floor used at left new′ r′
 carried {sig} {table} {proof} {old} {floor} {used} {at} {left} e q d = subst₂ (Derives sig table proof old floor used at left) (sym e) (sym q) d
 
-module _ {sig table proof ws : List ℕ} {floor used at left : ℕ} {Σ Γ : List Term} {o : Op} {a b : Term} (R : Ready sig table proof ws floor used at left Σ Γ (node o a b)) where
+module _ {sig table proof ws : List ℕ} {floor used at left : ℕ} {Σ Γ : List Term} {o : Op} {a b : Term}
+    (R : Ready sig table proof ws floor used at left Σ Γ (node o a b)) where
   pub first-ready : Ready sig table proof ws floor used (at + 1) (left - 1) Σ Γ a
   unfolding depth
   first-ready = record {
@@ -265,7 +284,8 @@ module _ {sig table proof ws : List ℕ} {floor used at left : ℕ} {Σ Γ : Lis
   unfolding depth
   two-deep = omega (arith, R .deep, depth-pos a)
 
-  pub between : (mid : List ℕ) (r : Derivation) (n next : ℕ) → Derives sig table proof ws floor used (at + 1) (left - 1) mid r → r ≡ Typed n next → Between proof ws mid used at next n Σ Γ o a
+  pub between : (mid : List ℕ) (r : Derivation) (n next : ℕ) → Derives sig table proof ws floor used (at + 1) (left - 1) mid r → r ≡ Typed n next
+      → Between proof ws mid used at next n Σ Γ o a
   between mid r n next d q =
       let D = d Σ Γ a first-ready in
       let A = typed-is _ _ used ws mid r n next D q in
@@ -279,7 +299,8 @@ module _ {sig table proof ws : List ℕ} {floor used at left : ℕ} {Σ Γ : Lis
         kept = D .kept;
       }
 
-  module _ (mid mid2 : List ℕ) (next n keep kept : ℕ) (B : Between proof ws mid used at next n Σ Γ o a) (I : Inside mid mid2 used at n keep kept o a (B .type)) (below : floor ≤ used) (same : length mid2 ≡ length ws) (room : used + left * level-words + front-words ≤ length ws) where
+  module _ (mid mid2 : List ℕ) (next n keep kept : ℕ) (B : Between proof ws mid used at next n Σ Γ o a) (I : Inside mid mid2 used at n keep kept o a (B .type))
+      (below : floor ≤ used) (same : length mid2 ≡ length ws) (room : used + left * level-words + front-words ≤ length ws) where
     abbrev A : Term
     A = B .type
 
@@ -323,7 +344,8 @@ module _ {sig table proof ws : List ℕ} {floor used at left : ℕ} {Σ Γ : Lis
         go lamO e = binder (R .context) first-has (domain-ok A (require-ok (domain A) _ _ e))
         go appO e = R .context
         go retO e = R .context
-        go bindO e = binder (R .context) (said Σ (R .signature) (stratify Σ (R .signature) (R .context) (subst (Has Σ Γ a) (ready-says at A e) first-has)) .1) of-prop
+        go bindO e =
+            binder (R .context) (said Σ (R .signature) (stratify Σ (R .signature) (R .context) (subst (Has Σ Γ a) (ready-says at A e) first-has)) .1) of-prop
 
     within-length : length (within o a A Γ) ≤ length Γ + 1
     within-length = go o
@@ -341,14 +363,17 @@ module _ {sig table proof ws : List ℕ} {floor used at left : ℕ} {Σ Γ : Lis
     second-ready = record {
       declared = R .declared;
       signature = R .signature;
-      binders = subst (λ (w : List ℕ). Binders proof w (within o a A Γ)) (sym scope-here) (binders-more o at a A (B .enters .here) (B .plain) (I .passed) (R .binders));
+      binders =
+          subst (λ (w : List ℕ). Binders proof w (within o a A Γ)) (sym scope-here)
+          (binders-more o at a A (B .enters .here) (B .plain) (I .passed) (R .binders));
       context = context-here;
       here = subst (λ (i : ℕ). At proof i b) (sym (B .enters .next-is)) (at-right (R .here));
       deep = omega (arith, R .deep);
       few = omega (arith, R .few, within-length, two-deep);
     }
 
-    module _ (part : List ℕ) (r : Derivation) (same-part : length part ≡ length (rest-of keep mid2)) (d : Derives sig table proof (rest-of keep mid2) floor kept next (left - 1) part r) where
+    module _ (part : List ℕ) (r : Derivation) (same-part : length part ≡ length (rest-of keep mid2))
+        (d : Derives sig table proof (rest-of keep mid2) floor kept next (left - 1) part r) where
       abbrev mid3 : List ℕ
       mid3 = whole-of keep mid2 part
 
@@ -365,12 +390,15 @@ module _ {sig table proof ws : List ℕ} {floor used at left : ℕ} {Σ Γ : Lis
       length-back = whole-length keep mid2 part (omega (arith, fits-level)) same-part ∙ same
 
       used-back : tail used mid3 ≡ tail used ws
-      used-back = tail-behind used kept mid3 (entry o at a A) (tail used ws) (I .kept-is) (omega (arith, fits-level, length-back)) (kept-back ∙ I .entered ∙ ap (λ (x : List ℕ). entry o at a A ++ x) (B .kept))
+      used-back =
+          tail-behind used kept mid3 (entry o at a A) (tail used ws) (I .kept-is) (omega (arith, fits-level, length-back))
+          (kept-back ∙ I .entered ∙ ap (λ (x : List ℕ). entry o at a A ++ x) (B .kept))
 
       pub second-refusal : (m p : ℕ) → r ≡ Refused m p → Derived (infer Σ Γ at (node o a b)) (at + size (node o a b)) used ws mid3 r
       second-refusal m p q =
           refused-derived _ _ used ws mid3 r m p
-          (second-refused Σ Γ at o a b A (B .is) (I .passed) next (B .enters .next-is) m p (refused-is _ _ kept (rest-of keep mid2) part r m p second-derived q))
+          (second-refused Σ Γ at o a b A (B .is) (I .passed) next (B .enters .next-is) m p
+          (refused-is _ _ kept (rest-of keep mid2) part r m p second-derived q))
           q used-back
 
       module _ (m end : ℕ) (q : r ≡ Typed m end) where
@@ -396,7 +424,8 @@ module _ {sig table proof ws : List ℕ} {floor used at left : ℕ} {Σ Γ : Lis
             let h = said Σ (R .signature) (stratify Σ (R .signature) (R .context) (subst (Has Σ Γ a) e first-has)) in
             let p : Plain (first A) × Plain (second A) = says-plain (first A) (second A) (subst PlainType e (B .plain)) in
             let s : size A ≡ suc (size (first A) + size (second A)) = ap size e in
-            plain-typed (weaken-one Σ (R .signature) (second A) (h .0)) (omega (arith, size-shift 0 (pos 1) (first A), B .small, R .few)) (named-shift 0 (pos 1) (first A) (in-range-named (first A) (plain-in-range (first A) (p .0))))
+            plain-typed (weaken-one Σ (R .signature) (second A) (h .0)) (omega (arith, size-shift 0 (pos 1) (first A), B .small, R .few))
+            (named-shift 0 (pos 1) (first A) (in-range-named (first A) (plain-in-range (first A) (p .0))))
 
         first-here : First o mid3 b A C
         unfolding formed
@@ -445,14 +474,17 @@ module _ {sig table proof ws : List ℕ} {floor used at left : ℕ} {Σ Γ : Lis
           room = omega (arith, fits-level, length-back, same, I .keep-is);
         }
 
-        pub node-derived : (mid4 : List ℕ) (s : Derivation) → length mid4 ≡ length mid3 → Formed (formed o at a b A C) end mid3 mid4 s → Derived (infer Σ Γ at (node o a b)) (at + size (node o a b)) used ws mid4 s
+        pub node-derived : (mid4 : List ℕ) (s : Derivation) → length mid4 ≡ length mid3 → Formed (formed o at a b A C) end mid3 mid4 s
+            → Derived (infer Σ Γ at (node o a b)) (at + size (node o a b)) used ws mid4 s
         node-derived mid4 s e f =
             let D = from-front (formed o at a b A C) end used mid3 mid4 s e (omega (arith, fits-level, length-back, I .kept-is)) f in
-            subst₂ (λ (x : Result Term) (i : ℕ). Derived x i used ws mid4 s) (sym node-is) ends-here (record { answer = D .answer; front = D .front; kept = D .kept ∙ used-back })
+            subst₂ (λ (x : Result Term) (i : ℕ). Derived x i used ws mid4 s) (sym node-is) ends-here
+            (record { answer = D .answer; front = D .front; kept = D .kept ∙ used-back })
 
 -- ---- leaves and Signs
 
-module _ {sig table proof ws : List ℕ} {floor used at left : ℕ} {Σ Γ : List Term} (k : ℕ) (new : List ℕ) (r : Derivation) (same : length new ≡ length ws) (room : used + front-words ≤ length ws) where
+module _ {sig table proof ws : List ℕ} {floor used at left : ℕ} {Σ Γ : List Term} (k : ℕ) (new : List ℕ) (r : Derivation) (same : length new ≡ length ws)
+    (room : used + front-words ≤ length ws) where
   pub atom-derived : (t : Term) → k ≡ kind-atom → k ≡ headKind t → Ready sig table proof ws floor used at left Σ Γ t
       → ((Σ : List Term) → (a : Atom) → Declared sig table Σ → getD proof at 0 ≡ atomWord a → PlainAtom a → Formed (atom-type Σ at a) (at + 1) ws new r)
       → Derived (infer Σ Γ at t) (at + size t) used ws new r
@@ -465,20 +497,25 @@ module _ {sig table proof ws : List ℕ} {floor used at left : ℕ} {Σ Γ : Lis
   -- a variable's type is plain where the variable stands
   raises : (n : ℕ) → Ready sig table proof ws floor used at left Σ Γ (var n) → Raises Γ n
   unfolding infer
-  raises n R A e s = type-of R (ap (λ (x : Option Term). known unbound-variable at x >>= λ A. measured at (raise (suc n) A)) e ∙ measured-small at (subst (λ (i : ℕ). i ≤ most-type-words) (sym (size-shift 0 (pos (suc n)) A)) s)) .0
+  raises n R A e s =
+      type-of R (ap (λ (x : Option Term). known unbound-variable at x >>= λ A. measured at (raise (suc n) A)) e
+      ∙ measured-small at (subst (λ (i : ℕ). i ≤ most-type-words) (sym (size-shift 0 (pos (suc n)) A)) s)) .0
 
   pub variable-derived : (t : Term) → k ≡ kind-variable → k ≡ headKind t → Ready sig table proof ws floor used at left Σ Γ t
-      → (n : ℕ) → n ≡ payload-of (getD proof at 0) → ((Γ : List Term) → Binders proof (scope-words floor used ws) Γ → Raises Γ n → Formed (variable-type Γ at n) (at + 1) ws new r)
+      → (n : ℕ) → n ≡ payload-of (getD proof at 0) → ((Γ : List Term) → Binders proof (scope-words floor used ws) Γ → Raises Γ n
+      → Formed (variable-type Γ at n) (at + 1) ws new r)
       → Derived (infer Σ Γ at t) (at + size t) used ws new r
   unfolding infer size
   variable-derived (atom a) z h R m q f = absurd (omega arith)
   variable-derived (var n) z h R m q f =
       let e = q ∙ payload proof at n (R .here) in
-      from-front _ _ used ws new r same room (subst (λ (i : ℕ). Formed (variable-type Γ at i) (at + 1) ws new r) e (f Γ (R .binders) (subst (Raises Γ) (sym e) (raises n R))))
+      from-front _ _ used ws new r same room (subst (λ (i : ℕ). Formed (variable-type Γ at i) (at + 1) ws new r) e
+      (f Γ (R .binders) (subst (Raises Γ) (sym e) (raises n R))))
   variable-derived (sign n p) z h R m q f = absurd (omega arith)
   variable-derived (node o a b) z h R m q f = absurd (omega (arith, op-low o))
 
-  pub sign-refused : (t : Term) (m p : ℕ) → k ≡ kind-sign → k ≡ headKind t → Ready sig table proof ws floor used at left Σ Γ t → Derives sig table proof ws used used (at + 1) (left - 1) new r → r ≡ Refused m p → Derived (infer Σ Γ at t) (at + size t) used ws new r
+  pub sign-refused : (t : Term) (m p : ℕ) → k ≡ kind-sign → k ≡ headKind t → Ready sig table proof ws floor used at left Σ Γ t
+      → Derives sig table proof ws used used (at + 1) (left - 1) new r → r ≡ Refused m p → Derived (infer Σ Γ at t) (at + size t) used ws new r
   unfolding infer
   sign-refused (atom a) m p z h R d q = absurd (omega arith)
   sign-refused (var n) m p z h R d q = absurd (omega arith)
@@ -497,7 +534,8 @@ pub record Signed-in (proof ws new : List ℕ) (used at n end : ℕ) (Σ Γ : Li
   pub ends : at + size t ≡ end
   pub kept : tail used new ≡ tail used ws
 
-pub signed-in : {sig table proof ws : List ℕ} {floor used at left : ℕ} {Σ Γ : List Term} (t : Term) (k : ℕ) (new : List ℕ) (r : Derivation) (n end : ℕ) → k ≡ kind-sign → k ≡ headKind t → Ready sig table proof ws floor used at left Σ Γ t
+pub signed-in : {sig table proof ws : List ℕ} {floor used at left : ℕ} {Σ Γ : List Term} (t : Term) (k : ℕ) (new : List ℕ) (r : Derivation) (n end : ℕ)
+    → k ≡ kind-sign → k ≡ headKind t → Ready sig table proof ws floor used at left Σ Γ t
     → Derives sig table proof ws used used (at + 1) (left - 1) new r → r ≡ Typed n end → Signed-in proof ws new used at n end Σ Γ t
 unfolding infer size
 signed-in (atom a) k new r n end z h R d q = absurd (omega arith)
@@ -517,21 +555,28 @@ signed-in {ws} {used} {at} {Σ} (sign a u) k new r n end z h R d q =
     }
 signed-in (node o a b) k new r n end z h R d q = absurd (omega (arith, op-low o))
 
-pub sign-derived : {proof ws mid : List ℕ} {used at n end : ℕ} {Σ Γ : List Term} {t : Term} (S : Signed-in proof ws mid used at n end Σ Γ t) (new : List ℕ) (r : Derivation) → length new ≡ length mid → used + front-words ≤ length mid → Formed (sign-type at (S .a) (S .q) (S .s)) end mid new r → Derived (infer Σ Γ at t) (at + size t) used ws new r
+pub sign-derived : {proof ws mid : List ℕ} {used at n end : ℕ} {Σ Γ : List Term} {t : Term} (S : Signed-in proof ws mid used at n end Σ Γ t) (new : List ℕ)
+    (r : Derivation) → length new ≡ length mid → used + front-words ≤ length mid → Formed (sign-type at (S .a) (S .q) (S .s)) end mid new r
+    → Derived (infer Σ Γ at t) (at + size t) used ws new r
 sign-derived {ws} {mid} {used} {at} {end} S new r e l f =
     let D = from-front (sign-type at (S .a) (S .q) (S .s)) end used mid new r e l f in
-    subst₂ (λ (x : Result Term) (i : ℕ). Derived x i used ws new r) (sym (S .is)) (sym (S .ends)) (record { answer = D .answer; front = D .front; kept = D .kept ∙ S .kept })
+    subst₂ (λ (x : Result Term) (i : ℕ). Derived x i used ws new r) (sym (S .is)) (sym (S .ends))
+    (record { answer = D .answer; front = D .front; kept = D .kept ∙ S .kept })
 
 -- ---- a node's refusals before its second child
 
-pub first-refusal : {sig table proof ws : List ℕ} {floor used at left : ℕ} {Σ Γ : List Term} {o : Op} {a b : Term} (new : List ℕ) (r : Derivation) (m p : ℕ) → Ready sig table proof ws floor used at left Σ Γ (node o a b)
-    → Derives sig table proof ws floor used (at + 1) (left - 1) new r → r ≡ Refused m p → Derived (infer Σ Γ at (node o a b)) (at + size (node o a b)) used ws new r
+pub first-refusal : {sig table proof ws : List ℕ} {floor used at left : ℕ} {Σ Γ : List Term} {o : Op} {a b : Term} (new : List ℕ) (r : Derivation) (m p : ℕ)
+    → Ready sig table proof ws floor used at left Σ Γ (node o a b)
+    → Derives sig table proof ws floor used (at + 1) (left - 1) new r → r ≡ Refused m p
+    → Derived (infer Σ Γ at (node o a b)) (at + size (node o a b)) used ws new r
 first-refusal {ws} {used} {at} {Σ} {Γ} {o} {a} {b} new r m p R d q =
     let D = d Σ Γ a (first-ready R) in
     refused-derived _ _ used ws new r m p (first-refused Σ Γ at o a b m p (refused-is _ _ used ws new r m p D q)) q (D .kept)
 
-pub test-refusal : {sig table proof ws : List ℕ} {floor used at left : ℕ} {Σ Γ : List Term} {o : Op} {a b : Term} (mid mid2 : List ℕ) (next n : ℕ) → Ready sig table proof ws floor used at left Σ Γ (node o a b)
-    → (B : Between proof ws mid used at next n Σ Γ o a) → (e : Entered) (m : ℕ) → Entering o at a (B .type) n used mid mid2 e → e ≡ Fails m → Derived (infer Σ Γ at (node o a b)) (at + size (node o a b)) used ws mid2 (Refused m at)
+pub test-refusal : {sig table proof ws : List ℕ} {floor used at left : ℕ} {Σ Γ : List Term} {o : Op} {a b : Term} (mid mid2 : List ℕ) (next n : ℕ)
+    → Ready sig table proof ws floor used at left Σ Γ (node o a b)
+    → (B : Between proof ws mid used at next n Σ Γ o a) → (e : Entered) (m : ℕ) → Entering o at a (B .type) n used mid mid2 e → e ≡ Fails m
+    → Derived (infer Σ Γ at (node o a b)) (at + size (node o a b)) used ws mid2 (Refused m at)
 test-refusal {ws} {used} {at} {Σ} {Γ} {o} {a} {b} mid mid2 next n R B e m E q =
     let F = failed o at a (B .type) n used mid mid2 e m E q in
     refused-derived _ _ used ws mid2 _ m at (test-refused Σ Γ at o a b (B .type) (B .is) m at (F .fails)) refl (ap (tail used) (F .unchanged) ∙ B .kept)
@@ -545,7 +590,8 @@ pub record NodeAt (sig table proof ws : List ℕ) (floor used at left : ℕ) (Σ
   pub b : Term
   pub ready-node : Ready sig table proof ws floor used at left Σ Γ (node o a b)
 
-pub node-case : (F : Term → Type 0) (t : Term) (k : ℕ) → k ≡ headKind t → (k ≡ kind-atom → ⊥) → (k ≡ kind-variable → ⊥) → (k ≡ kind-sign → ⊥) → ((o : Op) (a b : Term) → F (node o a b)) → F t
+pub node-case : (F : Term → Type 0) (t : Term) (k : ℕ) → k ≡ headKind t → (k ≡ kind-atom → ⊥) → (k ≡ kind-variable → ⊥) → (k ≡ kind-sign → ⊥)
+    → ((o : Op) (a b : Term) → F (node o a b)) → F t
 node-case F (atom a) k h n0 n1 n2 f = absurd (n0 h)
 node-case F (var n) k h n0 n1 n2 f = absurd (n1 h)
 node-case F (sign n q) k h n0 n1 n2 f = absurd (n2 h)
@@ -557,7 +603,8 @@ pub record SignAt (sig table proof ws : List ℕ) (floor used at left : ℕ) (Σ
   pub q : Term
   pub ready-sign : Ready sig table proof ws floor used at left Σ Γ (sign n q)
 
-pub sign-case : {sig table proof ws : List ℕ} {floor used at left : ℕ} {Σ Γ : List Term} (k : ℕ) (t : Term) → k ≡ headKind t → k ≡ kind-sign → Ready sig table proof ws floor used at left Σ Γ t → SignAt sig table proof ws floor used at left Σ Γ
+pub sign-case : {sig table proof ws : List ℕ} {floor used at left : ℕ} {Σ Γ : List Term} (k : ℕ) (t : Term) → k ≡ headKind t → k ≡ kind-sign
+    → Ready sig table proof ws floor used at left Σ Γ t → SignAt sig table proof ws floor used at left Σ Γ
 sign-case k (atom a) h z R = absurd (omega arith)
 sign-case k (var n) h z R = absurd (omega arith)
 sign-case k (sign n q) h z R = record { n = n; q = q; ready-sign = R }

@@ -33,7 +33,8 @@ module _ (Σ : List Term) (a : ℕ) where
   passed-on (ok q) m p e = ap (λ r. r >>= stated q) e
   passed-on (refused m′ p′) m p e = cc
 
-  went-on : (r : Result Term) (A : Term) → (r >>= λ t. infer Σ [] 0 t) ≡ ok A → (q : Term) × (r ≡ ok q) × ((r >>= λ q. infer Σ [] 0 q >>= stated q) ≡ stated q A)
+  went-on : (r : Result Term) (A : Term) → (r >>= λ t. infer Σ [] 0 t) ≡ ok A
+      → (q : Term) × (r ≡ ok q) × ((r >>= λ q. infer Σ [] 0 q >>= stated q) ≡ stated q A)
   went-on (ok q) A e = (q, refl, ap (λ r. r >>= stated q) e)
   went-on (refused m p) A e = absurd (clash (cc))
 

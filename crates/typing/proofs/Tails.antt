@@ -1,4 +1,5 @@
--- The words kept at the end of a workspace: what is written at its front, and what a part of it that was lent gives back, leaves them.
+-- The words kept at the end of a workspace: what is written at its front, and what a part
+-- of it that was lent gives back, leaves them.
 use Prim.Native.Nat.{ℕ, _+_, _-_, _≤_}
 use native.Mathlib.Omega.{arith}
 use mathlib.Core.Path.{_≡_, sym, ap, _∙_}
@@ -53,7 +54,8 @@ append-tail x y k l =
     ap (λ (i : ℕ). drop i (x ++ y)) q ∙ drop-append-add x y (length y - k)
 
 -- the words that the rest kept, the whole has
-pub whole-tail : (n k : ℕ) (ws part : List ℕ) → n + k ≤ length ws → length part ≡ length (rest-of n ws) → tail k part ≡ tail k (rest-of n ws) → tail k (whole-of n ws part) ≡ tail k ws
+pub whole-tail : (n k : ℕ) (ws part : List ℕ) → n + k ≤ length ws → length part ≡ length (rest-of n ws) → tail k part ≡ tail k (rest-of n ws)
+    → tail k (whole-of n ws part) ≡ tail k ws
 whole-tail n k ws part l e q =
     let d = rest-length n ws in
     ap (tail k) (whole-is n ws part)

@@ -20,13 +20,15 @@ then-parts m at k o = known m at o >>= λ p. k (p .left) (p .right)
 abbrev then-children : ℕ → ℕ → Result Term → Option Parts → Result Term
 then-children m at r o = (known m at o >> ok (tt {0})) >> r
 
-with-parts : (o : Op) (t : Term) (m at : ℕ) (k : Term → Term → Result Term) → then-parts m at k (parts o t) ≡ then-children m at (k (first t) (second t)) (parts o t)
+with-parts : (o : Op) (t : Term) (m at : ℕ) (k : Term → Term → Result Term)
+    → then-parts m at k (parts o t) ≡ then-children m at (k (first t) (second t)) (parts o t)
 with-parts o (atom a) m at k = refl
 with-parts o (var n) m at k = refl
 with-parts o (sign n q) m at k = refl
 with-parts o (node h a b) m at k = go (Op-discrete o h)
   where
-    go : (d : Dec (o ≡ h)) → then-parts m at k (elim d as (λ u. Option Parts) [ yes _ ↦ some (record { left = a; right = b }) | no _ ↦ none ]) ≡ then-children m at (k a b) (elim d as (λ u. Option Parts) [ yes _ ↦ some (record { left = a; right = b }) | no _ ↦ none ])
+    go : (d : Dec (o ≡ h)) → then-parts m at k (elim d as (λ u. Option Parts) [ yes _ ↦ some (record { left = a; right = b }) | no _ ↦ none ])
+        ≡ then-children m at (k a b) (elim d as (λ u. Option Parts) [ yes _ ↦ some (record { left = a; right = b }) | no _ ↦ none ])
     go (yes e) = refl
     go (no e) = refl
 

@@ -37,7 +37,8 @@ pub fn check_term(
     ws: &mut [u32],
 ) -> Derivation
     requires { ⌜ Checkable (now sig) (now table) (now ws) most deep ⌝ }
-    ensures { λ r. ⌜ ((Σ : List Term) → Constants-of (now (sig .entry)) (now (table .entry)) Σ → Judged (typed-term Σ most deep (now (term .entry))) (length (now (term .entry))) (now (ws .exit)) r) ⌝ }
+    ensures { λ r. ⌜ ((Σ : List Term) → Constants-of (now (sig .entry)) (now (table .entry)) Σ
+        → Judged (typed-term Σ most deep (now (term .entry))) (length (now (term .entry))) (now (ws .exit)) r) ⌝ }
 {
     let len = term.len();
     if len < 1 {
@@ -69,7 +70,8 @@ pub fn check_term(
     derive(sig, table, term, ws, 0, 0, 0, deep)
 }
 
-// Tests 6 to 12 of a proposition as the term Sign: its places count from 0, and a fault at the added word is at place 0. That word counts for 6 and 8.
+// Tests 6 to 12 of a proposition as the term Sign: its places count from 0, and a fault at the added word
+// is at place 0. That word counts for 6 and 8.
 pub fn check_statement(sig: &[u32], table: &[u32], proposition: &[u32], ws: &mut [u32]) -> Verdict
     requires { ⌜ Checkable (now sig) (now table) (now ws) most-statement-words most-statement-nesting ⌝ }
     ensures { λ r. ⌜ ((Σ : List Term) → (a : ℕ) → Constants-of (now (sig .entry)) (now (table .entry)) Σ

@@ -17,9 +17,10 @@ ghost use Rattle.logic.specs.Term.{Term, size};
 ghost use Rattle.logic.specs.Infer.{infer};
 ghost use Rattle.typing.specs.Derive.{Ready, Derivable, Derived};
 
-// The type of the term that stands at `at` in the proof, at the front of the workspace. `table` says where the constants' types stand in the signature. Of the `used` words
-// kept at the end of the workspace, those before the last `floor` are the entries of the binders in scope. The term nests at most `left` deep.
-// "Children go left to right; a condition is tested once": the derivation recurses over nested terms, and the nesting left falls.
+// The type of the term that stands at `at` in the proof, at the front of the workspace. `table` says where the
+// constants' types stand in the signature. Of the `used` words kept at the end of the workspace, those before the last
+// `floor` are the entries of the binders in scope. The term nests at most `left` deep. "Children go left to right; a
+// condition is tested once": the derivation recurses over nested terms, and the nesting left falls.
 pub fn derive(
     sig: &[u32],
     table: &[u32],
@@ -31,7 +32,9 @@ pub fn derive(
     left: usize,
 ) -> Derivation
     requires { ⌜ Derivable (now sig) (now table) (now proof) (now ws) floor used at left ⌝ }
-    ensures { λ r. ⌜ ((Σ Γ : List Term) → (t : Term) → Ready (now (sig .entry)) (now (table .entry)) (now (proof .entry)) (now (ws .entry)) floor used at left Σ Γ t → Derived (infer Σ Γ at t) (at + size t) used (now (ws .entry)) (now (ws .exit)) r) ⌝ }
+    ensures { λ r. ⌜ ((Σ Γ : List Term) → (t : Term)
+        → Ready (now (sig .entry)) (now (table .entry)) (now (proof .entry)) (now (ws .entry)) floor used at left Σ Γ t
+        → Derived (infer Σ Γ at t) (at + size t) used (now (ws .entry)) (now (ws .exit)) r) ⌝ }
 {
     let word = proof[at];
     let k = kind(word);

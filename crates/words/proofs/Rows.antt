@@ -95,11 +95,20 @@ left-none {ws} {at} {count} {end} l z = go (l .terms) (l .number) (l .ends)
     go [] n e = omega arith
     go (t ∷ ts) n e = absurd (omega arith)
 
-pub left-next : {ws : List ℕ} {at count end : ℕ} (n : ℕ) → 0 < count → n ≡ childrenOf (shape (getD ws at 0)) → Left ws at count end → Left ws (at + 1) (count - 1 + n) end
+pub left-next : {ws : List ℕ} {at count end : ℕ} (n : ℕ) → 0 < count → n ≡ childrenOf (shape (getD ws at 0)) → Left ws at count end
+    → Left ws (at + 1) (count - 1 + n) end
 left-next {ws} {at} {count} {end} n p e l = go (l .terms) (l .row) (l .number) (l .ends)
   where
     go : (ts : List Term) → Row ws at ts (l .rest) → length ts ≡ count → at + sizes ts ≡ end → Left ws (at + 1) (count - 1 + n) end
     go [] r m s = absurd (omega arith)
     go (t ∷ ts) r m s =
-        let c : childrenOf (shape (getD ws at 0)) ≡ childrenOf (head t) = ap (λ (w : ℕ). childrenOf (shape w)) (at-head (row-head r)) ∙ ap childrenOf (shape-first t (r .plain .0)) in
-        record { terms = behind t ts; rest = l .rest; row = row-next t ts r; number = omega (arith, behind-length t ts); ends = omega (arith, behind-size t ts) }
+        let c : childrenOf (shape (getD ws at 0)) ≡ childrenOf (head t) = ap (λ (w : ℕ). childrenOf (shape w)) (at-head (row-head r))
+        ∙ ap childrenOf (shape-first t (r .plain .0)) in
+        record {
+          terms = behind t ts;
+          rest = l .rest;
+          row = row-next t ts r;
+          number = omega (arith, behind-length t ts);
+          ends = omega
+              (arith, behind-size t ts);
+        }

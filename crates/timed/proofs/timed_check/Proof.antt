@@ -1,3 +1,4 @@
+-- `timed_check` runs tests 1, 4 and 6 to 12: a return for each of them that refuses, and 0.
 use mathlib.Core.Path.{sym}
 use lib.ListN.{length}
 use lib.Seq.{length-take-le}

@@ -1,3 +1,4 @@
+-- `binds` tells whether a word's second child stands under a binder: its kind says so.
 use borrow.Author.Needs.{needs}
 use Rattle.logic.specs.Reading.{shape}
 use Rattle.logic.proofs.Shapes.{binds-is}

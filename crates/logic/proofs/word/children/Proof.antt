@@ -1,3 +1,4 @@
+-- `children` gives the number of a word's children, by a digit of a table, as `kind` does its kind.
 use mathlib.Core.Path.{refl}
 use borrow.Author.Needs.{needs}
 use Rattle.logic.specs.Kind.{childrenOf}
@@ -42,7 +43,8 @@ cast-result-4 : tie.Need-cast-result-4
 cast-result-4 c = search needs
 
 returns-2 : tie.Need-returns-2
-returns-2 c = table-full table _ _ (c .before .before .before .tag-of .ensures) _ (c .before .payload-of .ensures) (c .if2 .left) (c .before .before .if1 .taken)
+returns-2 c =
+    table-full table _ _ (c .before .before .before .tag-of .ensures) _ (c .before .payload-of .ensures) (c .if2 .left) (c .before .before .if1 .taken)
 
 add-result : tie.Need-add-result
 add-result c = search needs

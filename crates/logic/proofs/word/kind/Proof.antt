@@ -1,3 +1,5 @@
+-- `kind` gives the kind of what a word begins, by a digit of a table. `table` says that the two numbers hold the digits
+-- of all tags; the three ways out are a bare word, a word with a payload, and a tag past the table.
 use mathlib.Core.Path.{refl}
 use borrow.Author.Needs.{needs}
 use Rattle.logic.specs.Kind.{kindOf}
@@ -42,7 +44,8 @@ cast-result-4 : tie.Need-cast-result-4
 cast-result-4 c = search needs
 
 returns-2 : tie.Need-returns-2
-returns-2 c = table-full table _ _ (c .before .before .before .tag-of .ensures) _ (c .before .payload-of .ensures) (c .if2 .left) (c .before .before .if1 .taken)
+returns-2 c =
+    table-full table _ _ (c .before .before .before .tag-of .ensures) _ (c .before .payload-of .ensures) (c .if2 .left) (c .before .before .if1 .taken)
 
 returns-3 : tie.Need-returns-3
 returns-3 c = table-none table _ _ (c .before .tag-of .ensures) (c .if1 .left)

@@ -1,3 +1,5 @@
+-- `apply` gives an App's type: the argument's type is not the domain, or the body is filled into the small buffer or,
+-- where that has no room, into the large one, and copied from there to the front.
 use Prim.Native.Nat.{ℕ, _+_, _-_, _≤_}
 use native.Mathlib.Omega.{arith}
 use mathlib.Core.Path.{_≡_, refl}

@@ -1,3 +1,5 @@
+-- `bind` gives a Bind's type: another principal says the body's type, or the variable occurs in it, or it is shifted
+-- down in place.
 use Prim.Native.Nat.{ℕ, _+_, _-_, _≤_}
 use native.Mathlib.Omega.{arith}
 use mathlib.Core.Path.{_≡_, sym, ap}
@@ -11,7 +13,8 @@ use Rattle.words.proofs.Places.{size-pos, at-end}
 use Rattle.moves.specs.Occurrence.{occurrence-answer}
 use Rattle.rules.specs.Scope.{entry-head}
 use Rattle.rules.specs.Form.{front-words}
-use Rattle.results.proofs.Results.{total-is, kept-size, said-is, kept-inside, said-size, bind-short, bind-differs, saying, said-at, right-at, bind-present, bind-absent}
+use Rattle.results.proofs.Results.{total-is, kept-size, said-is, kept-inside, said-size, bind-short, bind-differs, saying, said-at, right-at}
+use Rattle.results.proofs.Results.{bind-present, bind-absent}
 use Rattle.results.proofs.bind.bind.Statement.{statement}
 use Rattle.results.proofs.bind.bind.Tie as tie
 

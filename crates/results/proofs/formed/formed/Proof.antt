@@ -1,3 +1,5 @@
+-- `formed` gives a node's type: by the node's word, one of the results of `apply`, `bind` and `pair`, or the type of
+-- the second child, tested.
 use Prim.Native.Nat.{_<_}
 use native.Mathlib.Omega.{arith}
 use mathlib.Core.Bool.{false}
@@ -9,7 +11,8 @@ use Rattle.logic.specs.Infer.{same}
 use Rattle.logic.specs.Term.{propA, kindPA, lamO, appO, retO, bindO, Term, P, KindP, opWord}
 use Rattle.words.specs.Typed.{TypeAt}
 use Rattle.words.proofs.Types.{at-type, type-within}
-use Rattle.results.proofs.Formings.{formed-app, formed-bind, formed-lam, formed-ret, appliable, bindable, pairable, formed-prop, formed-no-says, formed-kind, formed-no-pi}
+use Rattle.results.proofs.Formings.{formed-app, formed-bind, formed-lam, formed-ret, appliable, bindable, pairable, formed-prop}
+use Rattle.results.proofs.Formings.{formed-no-says, formed-kind, formed-no-pi}
 use Rattle.results.proofs.formed.formed.Statement.{statement}
 use Rattle.results.proofs.formed.formed.Tie as tie
 

@@ -1,3 +1,5 @@
+-- `pair` gives the type of a Lam or a Ret: the second type is no proposition, or the words are too many, or they are
+-- written at the front, the second type's by way of the words behind.
 use Prim.Native.Nat.{ℕ, _+_, _≤_}
 use native.Mathlib.Omega.{arith}
 use mathlib.Core.Path.{_≡_, _∙_}

@@ -1,3 +1,5 @@
+-- `sign` gives a Sign's type: the proposition's type is not P, or the type is too long, or its words are written at the
+-- front.
 use Prim.Native.Nat.{ℕ, suc, _+_, _≤_}
 use native.Mathlib.Omega.{arith}
 use mathlib.Core.Path.{_≡_, refl, _∙_}

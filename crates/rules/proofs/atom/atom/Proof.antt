@@ -1,3 +1,4 @@
+-- `atom` gives an atom's type: a constant's by `constant`, any other's is an atom, which is written at the front.
 use Rattle.rules.proofs.Atoms.{constant-typed, sort-known, sorted}
 use Rattle.logic.specs.Term.{tag-of}
 use Prim.Native.Nat.{ℕ}

@@ -1,3 +1,4 @@
+-- `constant` gives a constant's type: there is none, or it is too long, or its words are copied from the signature.
 use Rattle.rules.proofs.Atoms.{ConstantAt, constant-at, constant-unknown, constant-long, constant-copied}
 use Rattle.rules.specs.Scope.{Declared}
 use Rattle.words.proofs.Places.{at-end}

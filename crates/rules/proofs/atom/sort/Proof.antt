@@ -1,3 +1,4 @@
+-- `sort` gives the type of an atom that is no constant, by the atom's tag: a return for each of five types.
 use Rattle.rules.proofs.Atoms.{sort-is}
 use borrow.Author.Needs.{needs}
 use Rattle.rules.proofs.atom.sort.Statement.{statement}
@@ -25,13 +26,17 @@ mul-result-4 : tie.Need-mul-result-4
 mul-result-4 c = search needs
 
 returns-4 : tie.Need-returns-4
-returns-4 c = sort-is (c .before .before .before .before .args .tag) (simp (c .if4 .taken, c .before .if3 .left, c .before .before .if2 .left, c .before .before .before .if1 .left))
+returns-4 c =
+    sort-is (c .before .before .before .before .args .tag) (simp
+    (c .if4 .taken, c .before .if3 .left, c .before .before .if2 .left, c .before .before .before .if1 .left))
 
 mul-result-5 : tie.Need-mul-result-5
 mul-result-5 c = search needs
 
 returns-5 : tie.Need-returns-5
-returns-5 c = sort-is (c .before .before .before .before .args .tag) (simp (c .if4 .left, c .before .if3 .left, c .before .before .if2 .left, c .before .before .before .if1 .left))
+returns-5 c =
+    sort-is (c .before .before .before .before .args .tag) (simp
+    (c .if4 .left, c .before .if3 .left, c .before .before .if2 .left, c .before .before .before .if1 .left))
 
 pub sort-spec : {M : Type 1} → statement M
 sort-spec =

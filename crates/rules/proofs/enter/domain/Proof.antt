@@ -1,3 +1,4 @@
+-- `domain` tells whether a type that begins with the word is one that a domain may have.
 use Rattle.rules.proofs.Enters.{domain-word, domain-first}
 use mathlib.Core.Path.{sym, ap, ap₂, _∙_}
 use mathlib.Core.Bool.{Bool, _||_}

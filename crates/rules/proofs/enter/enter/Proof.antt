@@ -1,3 +1,5 @@
+-- `enter` tests the type of a node's first child and keeps what is needed: by the node's word, a return for each
+-- outcome of the test.
 use mathlib.Core.List.{List}
 use Rattle.rules.proofs.Enters.{app-passes, app-fails, bind-passes, bind-fails, bind-keeps, binder-passes, binder-fails, plain-passes, plain-fails}
 use Rattle.words.proofs.Places.{at-end, size-pos}

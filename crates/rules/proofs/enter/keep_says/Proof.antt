@@ -1,3 +1,5 @@
+-- `keep_says` keeps the entry of a Bind: the type's words are copied to the end, its principal is raised there, and the
+-- three first words are written.
 use Rattle.rules.proofs.Enters.{says-size, said, says-kept}
 use Rattle.words.specs.Typed.{TypeAt}
 use Rattle.words.specs.Place.{At}

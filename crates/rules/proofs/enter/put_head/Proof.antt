@@ -1,3 +1,4 @@
+-- `put_head` writes the first three words of an entry, one behind the other.
 use Prim.Native.Nat.{_+_}
 use lib.ListN.{set, length-set}
 use Rattle.rules.proofs.Kepts.{written-three}
@@ -37,7 +38,9 @@ mul-ws-3 : tie.Need-mul-ws-3
 mul-ws-3 c = search needs
 
 slice-write-ws-3 : tie.Need-slice-write-ws-3
-slice-write-ws-3 c = let l = length-set (c .args .ws .now) (c .args .head) (c .args .total) in let m = length-set (set (c .args .ws .now) (c .args .head) (c .args .total)) (c .args .head + 1) (c .args .start) in omega arith
+slice-write-ws-3 c =
+    let l = length-set (c .args .ws .now) (c .args .head) (c .args .total) in
+    let m = length-set (set (c .args .ws .now) (c .args .head) (c .args .total)) (c .args .head + 1) (c .args .start) in omega arith
 
 same-length : tie.Need-same-length
 same-length c = search needs

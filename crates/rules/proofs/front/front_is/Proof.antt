@@ -1,3 +1,4 @@
+-- `front_is` compares the type at the front with an atom, by the first word alone.
 use borrow.Author.Needs.{needs}
 use Rattle.rules.proofs.Fronts.{front-word}
 use Rattle.rules.proofs.front.front_is.Statement.{statement}

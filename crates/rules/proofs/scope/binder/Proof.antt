@@ -1,3 +1,5 @@
+-- `binder` searches the entry of variable n, by a loop over entries. The invariant (`Found`): from `kept` on, the words
+-- kept are the entries of the binders behind the first n - left. The measure is `kept`.
 use Rattle.rules.proofs.Scopes.{Step, step, passed-none, passed-n, passed, passed-all}
 use mathlib.Core.List.{List}
 use Prim.Native.Nat.{ℕ, _-_, _≤_}
@@ -10,13 +12,15 @@ use Rattle.rules.proofs.scope.binder.Statement.{statement}
 use Rattle.rules.proofs.scope.binder.Tie as tie
 
 abbrev Inv-loop : tie.InvT-loop
-Inv-loop ws floor used n kept₀ left₀ kept left = (left ≤ n) × ((proof : List ℕ) (Γ : List Term) → Binders proof (scope-words floor used ws) Γ → Found proof ws floor used (n - left) Γ kept)
+Inv-loop ws floor used n kept₀ left₀ kept left =
+    (left ≤ n) × ((proof : List ℕ) (Γ : List Term) → Binders proof (scope-words floor used ws) Γ → Found proof ws floor used (n - left) Γ kept)
 
 abbrev μ-loop : tie.MeasureT-loop
 μ-loop ws floor used n kept₀ left₀ kept left = kept
 
 -- the entry that is reached, among the binders that `requires` brought
-reached : (c : tie.At-loop Inv-loop μ-loop) → Found (c .before .pre .proof) (c .before .args .ws .now) (c .before .args .floor) (c .before .args .used) (c .before .args .n - c .loop .left) (c .before .pre .Γ) (c .loop .kept)
+reached : (c : tie.At-loop Inv-loop μ-loop) → Found (c .before .pre .proof) (c .before .args .ws .now) (c .before .args .floor) (c .before .args .used)
+    (c .before .args .n - c .loop .left) (c .before .pre .Γ) (c .loop .kept)
 reached c = c .loop .inv .1 (c .before .pre .proof) (c .before .pre .Γ) (c .before .pre .binders)
 
 next : (c : tie.In-loop Inv-loop μ-loop) → Step (c .before .before .args .ws .now) (c .before .before .args .floor) (c .before .loop .kept)
@@ -58,8 +62,11 @@ loop-less c = let n = next (c .before .before) in omega arith
 loop-again : tie.Need-loop-again Inv-loop μ-loop
 loop-again c =
     let l = c .before .before .before in
-    let s = l .before in
-    (omega arith, λ proof Γ b. passed (l .loop .left) (s .args .n) (c .before .before .loop-test .taken) (s .pre .inside) (omega arith) (l .loop .inv .0) (l .loop .inv .1 proof Γ b))
+    let s = l .before in (
+      omega arith,
+      λ proof Γ b. passed (l .loop .left) (s .args .n) (c .before .before .loop-test .taken) (s .pre .inside) (omega arith) (l .loop .inv .0)
+          (l .loop .inv .1 proof Γ b),
+    )
 
 returns-2 : tie.Need-returns-2 Inv-loop μ-loop
 returns-2 c =

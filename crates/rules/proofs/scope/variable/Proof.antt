@@ -1,3 +1,5 @@
+-- `variable` gives a variable's type: no binder has its number, or the type is too long, or it is raised to where the
+-- variable stands, by way of the small buffer or the large one.
 use Rattle.rules.proofs.Variables.{picked-true, picked-false, Entry, entry-of, variable-unbound, variable-long, looked-up, variable-found}
 use Rattle.rules.specs.Scope.{scope-words, entry-head, Binders}
 use Rattle.rules.specs.Variable.{Raisable}

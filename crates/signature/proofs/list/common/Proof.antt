@@ -1,3 +1,5 @@
+-- `common` tells whether words are those of a permit's or a receipt's type: both are types that pass behind any
+-- constants.
 use Prim.Native.Nat.{ℕ}
 use mathlib.Core.Path.{ap, _∙_}
 use mathlib.Core.List.{List}

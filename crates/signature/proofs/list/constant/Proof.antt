@@ -1,3 +1,5 @@
+-- `constant` tests one constant of the list: its length word, its words, and its type, which is a common one or is
+-- derived.
 use Prim.Native.Nat.{ℕ, _+_, _-_}
 use mathlib.Core.Path.{_≡_, refl, sym, ap, subst, _∙_}
 use mathlib.Core.List.{List}

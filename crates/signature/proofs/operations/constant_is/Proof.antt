@@ -1,3 +1,5 @@
+-- `constant_is` compares a constant's type with words: there is no such constant, or the words that the table points at
+-- decide.
 use Prim.Native.Nat.{_-_}
 use native.Mathlib.Omega.{arith}
 use mathlib.Core.Path.{refl}

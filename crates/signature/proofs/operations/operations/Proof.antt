@@ -1,3 +1,5 @@
+-- `operations` tests the permits and receipts, by a loop over operations. The invariant: the operations below `i` have
+-- theirs. The measure is the number of operations left.
 use borrow.Author.Needs.{needs}
 use Prim.Native.Nat.{_-_, _≤_}
 use native.Mathlib.Omega.{arith}

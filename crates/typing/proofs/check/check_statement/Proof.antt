@@ -1,3 +1,5 @@
+-- `check_statement` runs tests 6 to 12 of a proposition as a Sign: what `check_term` refuses, then the test of P and
+-- the length of the type that the Sign would have.
 use Prim.Native.Nat.{ℕ}
 use mathlib.Core.Path.{_≡_, refl, sym, _∙_}
 use mathlib.Core.List.{List}

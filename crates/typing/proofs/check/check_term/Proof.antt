@@ -1,3 +1,4 @@
+-- `check_term` runs tests 6 to 12 of a term: a return for each test that refuses, and the derivation's answer.
 use Prim.Native.Nat.{ℕ}
 use mathlib.Core.Path.{_≡_, sym, ap, _∙_}
 use mathlib.Core.List.{List, []}

@@ -1,4 +1,5 @@
--- `typing::derive::derive` meets its contract, by recursion on the nesting left.
+-- `derive` gives the type of a term, by recursion on its children: a return for each kind of leaf, for a Sign, and
+-- for each of the four ways that the rule of a node ends. The measure is the nesting left.
 use borrow.Author.Needs.{needs}
 use native.Mathlib.Omega.{arith}
 use Prim.Native.Nat.{ℕ, _+_, _-_, _≤_, _<_}
@@ -20,7 +21,9 @@ use Rattle.typing.specs.Derive.{Ready, Derived}
 use Rattle.rules.specs.declared.derivation.Derivation.{Derivation}
 use Rattle.rules.specs.declared.derivation.Derivation.the-variants.{Refused}
 use Rattle.typing.proofs.Tails.{rest-of, whole-of, rest-length, whole-length}
-use Rattle.typing.proofs.Derives.{Derives, carried, Between, between, Inside, inside, signed-in, sign-derived, sign-refused, sign-ready, first-ready, two-deep, second-ready, level, atom-derived, variable-derived, first-refusal, test-refusal, second-refusal, formable, forms-here, node-derived, NodeAt, node-case, SignAt, sign-case}
+use Rattle.typing.proofs.Derives.{Derives, carried, Between, between, Inside, inside, signed-in, sign-derived, sign-refused, sign-ready}
+use Rattle.typing.proofs.Derives.{first-ready, two-deep, second-ready, level, atom-derived, variable-derived, first-refusal, test-refusal}
+use Rattle.typing.proofs.Derives.{second-refusal, formable, forms-here, node-derived, NodeAt, node-case, SignAt, sign-case}
 use Rattle.typing.proofs.derive.derive.Reads as derive
 use Rattle.typing.proofs.derive.derive.Kinds as kinds
 use Rattle.typing.proofs.derive.+derive.Lts-derive as lts

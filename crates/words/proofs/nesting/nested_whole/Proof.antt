@@ -1,3 +1,5 @@
+-- `nested_whole` tests the nesting of a whole term: one that has no more words than levels is within, and `nested`
+-- tells the rest.
 use Rattle.words.proofs.Nestings.{whole-few}
 use Rattle.words.proofs.Places.{is-at}
 use borrow.Author.Needs.{needs}

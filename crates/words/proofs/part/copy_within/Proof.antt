@@ -1,3 +1,6 @@
+-- `copy_within` copies words inside a list, by a loop. The invariant: the first `i` of them, as they stood at the
+-- beginning, are pasted; as none is written over before it is read, the next one is still what it was. The measure is
+-- the number of words left.
 use Prim.Native.Nat.{ℕ, _+_, _-_, _≤_}
 use mathlib.Core.Path.{_≡_, refl, ap, _∙_}
 use mathlib.Core.List.{List}
@@ -47,8 +50,14 @@ loop-again c =
     let l = c .before .before in
     let a = l .before .args in
     let p = l .before .pre in
-    let r = ap (λ (m : List ℕ). getD m (a .at + l .loop .i) 0) (l .loop .inv .1) ∙ copy-reads (a .words .now) (a .at) (a .n) (a .to) (l .loop .i) p (c .before .loop-test .taken) in
-    (omega arith, ap (set (l .loop .words) (a .to + l .loop .i)) r ∙ copy-turn (a .words .now) (l .loop .words) (a .words .now) (a .to) (a .at) (l .loop .i) (l .loop .inv .1) (omega arith) (omega arith), simp length-set (l .loop .inv .2))
+    let r = ap (λ (m : List ℕ). getD m (a .at + l .loop .i) 0) (l .loop .inv .1)
+    ∙ copy-reads (a .words .now) (a .at) (a .n) (a .to) (l .loop .i) p (c .before .loop-test .taken) in (
+      omega arith,
+      ap (set (l .loop .words) (a .to + l .loop .i)) r
+          ∙ copy-turn (a .words .now) (l .loop .words) (a .words .now) (a .to) (a .at) (l .loop .i) (l .loop .inv .1) (omega arith) (omega arith),
+      simp
+          length-set (l .loop .inv .2),
+    )
 
 same-length : tie.Need-same-length Inv-loop μ-loop
 same-length c = search needs
@@ -58,7 +67,8 @@ returns c =
     let a = c .before .before .args in
     let d : List ℕ = drop (a .at) (a .words .now) in
     let l = length-drop (a .at) (a .words .now) in
-    c .before .loop .inv .1 ∙ ap (paste (a .words .now) (a .to) d) (let e : c .before .loop .i ≡ a .n = omega arith in e) ∙ paste-written (a .words .now) (a .to) d (a .n) (omega arith)
+    c .before .loop .inv .1 ∙ ap (paste (a .words .now) (a .to) d) (let e : c .before .loop .i ≡ a .n = omega arith in e)
+    ∙ paste-written (a .words .now) (a .to) d (a .n) (omega arith)
 
 pub copy-within-spec : {M : Type 1} → statement M
 copy-within-spec =
