@@ -45,24 +45,40 @@ pub const TAG_KIND_P: u32 = 16;
 
 pub const TAG_KIND_T: u32 = 17;
 
-// The words of P, T and KindP, of Says and App, and of variable 0, constant 0, string 0 and principal 0.
+// The word of each tag: of variables, constants, strings, principals and Signs, that of number 0.
 pub const PROP: u32 = TAG_PROP * PAYLOADS;
 
 pub const TYPE: u32 = TAG_TYPE * PAYLOADS;
 
-pub const KIND_P: u32 = TAG_KIND_P * PAYLOADS;
+pub const STRING: u32 = TAG_STRING * PAYLOADS;
 
-pub const SAYS: u32 = TAG_SAYS * PAYLOADS;
-
-pub const APP: u32 = TAG_APP * PAYLOADS;
+pub const PRIN: u32 = TAG_PRIN * PAYLOADS;
 
 pub const VARIABLE_0: u32 = TAG_VARIABLE * PAYLOADS;
 
 pub const CONSTANT_0: u32 = TAG_CONSTANT * PAYLOADS;
 
+pub const SAYS: u32 = TAG_SAYS * PAYLOADS;
+
+pub const PI: u32 = TAG_PI * PAYLOADS;
+
+pub const LAM: u32 = TAG_LAM * PAYLOADS;
+
+pub const APP: u32 = TAG_APP * PAYLOADS;
+
 pub const TEXT_0: u32 = TAG_TEXT * PAYLOADS;
 
 pub const NAME_0: u32 = TAG_NAME * PAYLOADS;
+
+pub const SIGN_0: u32 = TAG_SIGN * PAYLOADS;
+
+pub const RET: u32 = TAG_RET * PAYLOADS;
+
+pub const BIND: u32 = TAG_BIND * PAYLOADS;
+
+pub const KIND_P: u32 = TAG_KIND_P * PAYLOADS;
+
+pub const KIND_T: u32 = TAG_KIND_T * PAYLOADS;
 
 // What a word may begin: an atom, a variable, a Sign, a node whose second child stands
 // under no binder or under one, or no term.

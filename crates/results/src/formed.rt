@@ -3,15 +3,14 @@ use crate::apply::apply;
 use crate::bind::bind;
 use crate::pair::pair;
 use logic::refusal::CONDITION_FAILS;
-use logic::word::PAYLOADS;
-use logic::word::TAG_APP;
-use logic::word::TAG_BIND;
-use logic::word::TAG_KIND_P;
-use logic::word::TAG_LAM;
-use logic::word::TAG_PI;
-use logic::word::TAG_PROP;
-use logic::word::TAG_RET;
-use logic::word::TAG_SAYS;
+use logic::word::APP;
+use logic::word::BIND;
+use logic::word::KIND_P;
+use logic::word::LAM;
+use logic::word::PI;
+use logic::word::PROP;
+use logic::word::RET;
+use logic::word::SAYS;
 use rules::derivation::Derivation;
 use rules::front::front_is;
 ghost use Rattle.logic.specs.Term.{Op, Term};
@@ -37,35 +36,35 @@ pub fn formed(
         → Formed (formedBy o at a b A B) end (now (ws .entry)) (now (ws .exit)) r) ⌝ }
 {
     let word = proof[at];
-    let is_app = word == TAG_APP * PAYLOADS;
+    let is_app = word == APP;
     if is_app {
         return apply(proof, ws, at, next, n, m, end);
     }
-    let is_bind = word == TAG_BIND * PAYLOADS;
+    let is_bind = word == BIND;
     if is_bind {
         return bind(ws, used, at, m, end);
     }
-    let is_lam = word == TAG_LAM * PAYLOADS;
+    let is_lam = word == LAM;
     if is_lam {
-        return pair(proof, ws, TAG_PI * PAYLOADS, at, next, m, end);
+        return pair(proof, ws, PI, at, next, m, end);
     }
-    let is_ret = word == TAG_RET * PAYLOADS;
+    let is_ret = word == RET;
     if is_ret {
-        return pair(proof, ws, TAG_SAYS * PAYLOADS, at, next, m, end);
+        return pair(proof, ws, SAYS, at, next, m, end);
     }
     // a Says or a Pi: the type stays
-    let is_prop = front_is(&ws[..], TAG_PROP * PAYLOADS);
+    let is_prop = front_is(&ws[..], PROP);
     if is_prop {
         return Derivation::Typed { words: m, end };
     }
-    let is_says = word == TAG_SAYS * PAYLOADS;
+    let is_says = word == SAYS;
     if is_says {
         return Derivation::Refused {
             number: CONDITION_FAILS,
             place: at,
         };
     }
-    let is_kind = front_is(&ws[..], TAG_KIND_P * PAYLOADS);
+    let is_kind = front_is(&ws[..], KIND_P);
     if is_kind {
         return Derivation::Typed { words: m, end };
     }

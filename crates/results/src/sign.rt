@@ -2,10 +2,9 @@
 use logic::limit::MOST_TYPE_WORDS;
 use logic::refusal::CONDITION_FAILS;
 use logic::refusal::TYPE_TOO_LONG;
-use logic::word::PAYLOADS;
-use logic::word::TAG_NAME;
-use logic::word::TAG_PROP;
-use logic::word::TAG_SAYS;
+use logic::word::NAME_0;
+use logic::word::PROP;
+use logic::word::SAYS;
 use logic::word::payload_of;
 use rules::derivation::Derivation;
 use rules::front::front_is;
@@ -23,7 +22,7 @@ pub fn sign(proof: &[u32], ws: &mut [u32], at: usize, n: usize, end: usize) -> D
     ensures { λ r. ⌜ ((a : ℕ) → (q s : Term) → Signs (now (proof .entry)) (now (ws .entry)) at n end a q s
         → Formed (sign-type at a q s) end (now (ws .entry)) (now (ws .exit)) r) ⌝ }
 {
-    let fine = front_is(&ws[..], TAG_PROP * PAYLOADS);
+    let fine = front_is(&ws[..], PROP);
     if !fine {
         return Derivation::Refused {
             number: CONDITION_FAILS,
@@ -38,8 +37,8 @@ pub fn sign(proof: &[u32], ws: &mut [u32], at: usize, n: usize, end: usize) -> D
             place: at,
         };
     }
-    ws[0] = TAG_SAYS * PAYLOADS;
-    ws[1] = TAG_NAME * PAYLOADS + payload_of(proof[at]);
+    ws[0] = SAYS;
+    ws[1] = NAME_0 + payload_of(proof[at]);
     copy(proof, at + 1, words - 2, ws, 2);
     Derivation::Typed { words, end }
 }

@@ -3,16 +3,16 @@ use crate::derivation::Derivation;
 use logic::limit::MOST_TYPE_WORDS;
 use logic::refusal::TYPE_TOO_LONG;
 use logic::refusal::UNKNOWN_CONSTANT;
-use logic::word::PAYLOADS;
+use logic::word::KIND_P;
+use logic::word::KIND_T;
+use logic::word::PRIN;
+use logic::word::STRING;
 use logic::word::TAG_CONSTANT;
-use logic::word::TAG_KIND_P;
-use logic::word::TAG_KIND_T;
 use logic::word::TAG_NAME;
-use logic::word::TAG_PRIN;
 use logic::word::TAG_PROP;
-use logic::word::TAG_STRING;
 use logic::word::TAG_TEXT;
 use logic::word::TAG_TYPE;
+use logic::word::TYPE;
 use logic::word::payload_of;
 use logic::word::tag_of;
 use words::part::copy;
@@ -33,22 +33,22 @@ fn sort(tag: u32) -> u32
 {
     let prop = tag == TAG_PROP;
     if prop {
-        return TAG_KIND_P * PAYLOADS;
+        return KIND_P;
     }
     let basic = tag == TAG_TYPE;
     if basic {
-        return TAG_KIND_T * PAYLOADS;
+        return KIND_T;
     }
     let text = tag == TAG_TEXT;
     if text {
-        return TAG_STRING * PAYLOADS;
+        return STRING;
     }
     let name = tag == TAG_NAME;
     if name {
-        return TAG_PRIN * PAYLOADS;
+        return PRIN;
     }
     // S and N have the type T
-    TAG_TYPE * PAYLOADS
+    TYPE
 }
 
 // A constant's type is copied from the signature: the table says where it stands, behind its length word.

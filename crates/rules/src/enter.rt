@@ -5,13 +5,12 @@ use logic::refusal::CONDITION_FAILS;
 use logic::refusal::NOT_A_FUNCTION;
 use logic::word::BINDER;
 use logic::word::KIND_P;
-use logic::word::PAYLOADS;
+use logic::word::PI;
+use logic::word::PRIN;
 use logic::word::PROP;
+use logic::word::SAYS;
 use logic::word::TAG_APP;
 use logic::word::TAG_BIND;
-use logic::word::TAG_PI;
-use logic::word::TAG_PRIN;
-use logic::word::TAG_SAYS;
 use logic::word::TYPE;
 use logic::word::kind;
 use logic::word::tag_of;
@@ -107,7 +106,7 @@ pub fn enter(
     let tag = tag_of(word);
     if tag == TAG_APP {
         // an App's function has a Pi type, which is kept at the front
-        if ws[0] == TAG_PI * PAYLOADS {
+        if ws[0] == PI {
             return Entered::Fits { keep: n, used };
         }
         return Entered::Fails {
@@ -115,7 +114,7 @@ pub fn enter(
         };
     }
     if tag == TAG_BIND {
-        if ws[0] == TAG_SAYS * PAYLOADS {
+        if ws[0] == SAYS {
             let kept = keep_says(ws, used, n);
             return Entered::Fits {
                 keep: 0,
@@ -140,7 +139,7 @@ pub fn enter(
         };
     }
     // a Says or a Ret
-    let fine = front_is(&ws[..], TAG_PRIN * PAYLOADS);
+    let fine = front_is(&ws[..], PRIN);
     if fine {
         return Entered::Fits { keep: 0, used };
     }

@@ -3,11 +3,10 @@ use logic::limit::MOST_CONSTANT_WORDS;
 use logic::limit::MOST_CONSTANTS;
 use logic::limit::MOST_NESTING;
 use logic::limit::MOST_WORDS;
-use logic::word::PAYLOADS;
-use logic::word::TAG_KIND_P;
-use logic::word::TAG_PI;
-use logic::word::TAG_PROP;
-use logic::word::TAG_STRING;
+use logic::word::KIND_P;
+use logic::word::PI;
+use logic::word::PROP;
+use logic::word::STRING;
 use rules::derivation::Derivation;
 use rules::front::front_is;
 use typing::check::check_term;
@@ -31,15 +30,12 @@ pub enum Listed {
 fn common(words: &[u32]) -> bool
     ensures { λ r. ⌜ ((Σ : List Term) → r ≡ true → passed (constant-type Σ (now (words .entry))) ≡ true) ⌝ }
 {
-    let pi = TAG_PI * PAYLOADS;
-    let string = TAG_STRING * PAYLOADS;
-    let prop = TAG_PROP * PAYLOADS;
-    let permit = [pi, string, prop];
+    let permit = [PI, STRING, PROP];
     let permitted = same(words, &permit);
     if permitted {
         return true;
     }
-    let receipt = [pi, string, pi, string, prop];
+    let receipt = [PI, STRING, PI, STRING, PROP];
     same(words, &receipt)
 }
 
@@ -77,7 +73,7 @@ fn constant(sig: &[u32], table: &[u32], at: usize, ws: &mut [u32]) -> bool
             number: _,
             place: _,
         } => false,
-        Derivation::Typed { words: _, end: _ } => front_is(&ws[..], TAG_KIND_P * PAYLOADS),
+        Derivation::Typed { words: _, end: _ } => front_is(&ws[..], KIND_P),
     }
 }
 

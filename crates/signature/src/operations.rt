@@ -1,9 +1,8 @@
 // The constants of the operations: each operation's permit and receipt.
 use logic::limit::MOST_OPERATIONS;
-use logic::word::PAYLOADS;
-use logic::word::TAG_PI;
-use logic::word::TAG_PROP;
-use logic::word::TAG_STRING;
+use logic::word::PI;
+use logic::word::PROP;
+use logic::word::STRING;
 use words::part::same;
 ghost use mathlib.Core.Path.{_≡_};
 ghost use mathlib.Core.List.{List};
@@ -41,11 +40,8 @@ pub fn operations(sig: &[u32], table: &[u32], n: u32) -> bool
     if MOST_OPERATIONS < count {
         return false;
     }
-    let pi = TAG_PI * PAYLOADS;
-    let string = TAG_STRING * PAYLOADS;
-    let prop = TAG_PROP * PAYLOADS;
-    let permit = [pi, string, prop];
-    let receipt = [pi, string, pi, string, prop];
+    let permit = [PI, STRING, PROP];
+    let receipt = [PI, STRING, PI, STRING, PROP];
     let mut i: usize = 0;
     while i < count {
         let permitted = constant_is(sig, table, 2 * i, &permit);

@@ -1,5 +1,6 @@
 // The check of a term under a signature without a register, for the benchmark.
 use logic::limit::LEAST_WORKSPACE;
+use logic::limit::MOST_CONSTANTS;
 use logic::limit::MOST_NESTING;
 use logic::limit::MOST_WORDS;
 use logic::refusal::BAD_SIGNATURE;
@@ -21,7 +22,7 @@ pub extern "C" fn timed_check(signature: &[u32], term: &[u32], workspace: &mut [
     if workspace.len() < LEAST_WORKSPACE {
         return WORKSPACE_SHORT;
     }
-    let mut table = [0u32; 256];
+    let mut table = [0u32; MOST_CONSTANTS];
     let listed = read_signature(signature, &mut table, workspace);
     match listed {
         Listed::Bad { place: _ } => BAD_SIGNATURE,

@@ -8,8 +8,7 @@ use logic::refusal::MALFORMED;
 use logic::refusal::NESTING;
 use logic::refusal::TERM_LENGTH;
 use logic::refusal::TYPE_TOO_LONG;
-use logic::word::PAYLOADS;
-use logic::word::TAG_PROP;
+use logic::word::PROP;
 use rules::derivation::Derivation;
 use rules::derivation::Verdict;
 use rules::front::front_is;
@@ -88,7 +87,7 @@ pub fn check_statement(sig: &[u32], table: &[u32], proposition: &[u32], ws: &mut
     match typed {
         Derivation::Refused { number, place } => Verdict::Fault { number, place },
         Derivation::Typed { words, end: _ } => {
-            let fine = front_is(&ws[..], TAG_PROP * PAYLOADS);
+            let fine = front_is(&ws[..], PROP);
             if !fine {
                 return Verdict::Fault {
                     number: CONDITION_FAILS,

@@ -2,11 +2,11 @@
 use logic::word::APP;
 use logic::word::CONSTANT_0;
 use logic::word::KIND_P;
+use logic::word::LAM;
 use logic::word::PAYLOADS;
+use logic::word::PI;
 use logic::word::PROP;
-use logic::word::TAG_LAM;
-use logic::word::TAG_PI;
-use logic::word::TAG_SIGN;
+use logic::word::SIGN_0;
 use logic::word::VARIABLE_0;
 use moves::fill::Filled;
 use moves::fill::fill_into;
@@ -17,18 +17,12 @@ use words::read::Parse;
 use words::read::read_whole;
 ghost use Rattle.io.specs.Counts.{Counts};
 
-// P, C0, V0, and the words that have children.
+// P, C0 and V0.
 const P: u32 = PROP;
 
 const C0: u32 = CONSTANT_0;
 
 const V0: u32 = VARIABLE_0;
-
-const PI: u32 = TAG_PI * PAYLOADS;
-
-const LAM: u32 = TAG_LAM * PAYLOADS;
-
-const SIGN_0: u32 = TAG_SIGN * PAYLOADS;
 
 // The most that a shift may be asked.
 const FAR: i32 = PAYLOADS as i32;

@@ -1,25 +1,23 @@
 // The words of document 01's sample, each under the name that the document gives it, and of document 02's examples.
 use logic::word::APP;
+use logic::word::BIND;
 use logic::word::CONSTANT_0;
+use logic::word::LAM;
 use logic::word::NAME_0;
-use logic::word::PAYLOADS;
+use logic::word::PI;
+use logic::word::PRIN;
 use logic::word::PROP;
 use logic::word::SAYS;
-use logic::word::TAG_BIND;
-use logic::word::TAG_LAM;
-use logic::word::TAG_PI;
-use logic::word::TAG_PRIN;
-use logic::word::TAG_RET;
-use logic::word::TAG_SIGN;
-use logic::word::TAG_STRING;
+use logic::word::SIGN_0;
+use logic::word::STRING;
 use logic::word::TEXT_0;
 use logic::word::VARIABLE_0;
 
 pub(crate) const P: u32 = PROP;
 
-pub(crate) const S: u32 = TAG_STRING * PAYLOADS;
+pub(crate) const S: u32 = STRING;
 
-const N: u32 = TAG_PRIN * PAYLOADS;
+const N: u32 = PRIN;
 
 pub(crate) const V0: u32 = VARIABLE_0;
 
@@ -35,10 +33,6 @@ const C3: u32 = C0 + 3;
 
 pub(crate) const C9: u32 = C0 + 9;
 
-const PI: u32 = TAG_PI * PAYLOADS;
-
-const LAM: u32 = TAG_LAM * PAYLOADS;
-
 pub(crate) const S7: u32 = TEXT_0 + 7;
 
 pub(crate) const A0: u32 = NAME_0;
@@ -49,17 +43,13 @@ const A4: u32 = A0 + 4;
 
 const A5: u32 = A0 + 5;
 
-const SIGN0: u32 = TAG_SIGN * PAYLOADS;
+pub(crate) const SIGN3: u32 = SIGN_0 + 3;
 
-pub(crate) const SIGN3: u32 = SIGN0 + 3;
+pub(crate) const SIGN4: u32 = SIGN_0 + 4;
 
-pub(crate) const SIGN4: u32 = SIGN0 + 4;
+const SIGN5: u32 = SIGN_0 + 5;
 
-const SIGN5: u32 = SIGN0 + 5;
-
-pub(crate) const RET: u32 = TAG_RET * PAYLOADS;
-
-const BIND: u32 = TAG_BIND * PAYLOADS;
+pub(crate) const RET: u32 = logic::word::RET;
 
 // The operations of the sample.
 pub(crate) const OPERATIONS: u32 = 1;
@@ -109,7 +99,7 @@ pub(crate) fn proof() -> [u32; 27] {
     let proposition = rule();
     let body = [RET, A0, APP, APP, APP, V0, S7, A3, SIGN3, APP, C2, S7];
     let mut words = [BIND; 27];
-    words[1] = SIGN0;
+    words[1] = SIGN_0;
     lay(&proposition, &body, &mut words[2..]);
     words
 }

@@ -73,9 +73,6 @@ mul-word c = let z = within (c .before .before) in omega (arith, c .before .befo
 shared-slice-read-word : tie.Need-shared-slice-read-word
 shared-slice-read-word c = within (c .before .before .before)
 
-mul-is-app : tie.Need-mul-is-app
-mul-is-app c = search needs
-
 apply-requires : tie.Need-apply-requires
 apply-requires c κs =
     let s = c .before .before .before .before .before in
@@ -93,9 +90,6 @@ returns c =
     formed-app (a .proof .now) (a .ws .now) (a .used) (a .at) (a .next) (a .n) (a .m) (a .end) _ _ (c .before .before .before .before .if1 .taken)
     (at-apply .apply .ensures)
 
-mul-is-bind : tie.Need-mul-is-bind
-mul-is-bind c = search needs
-
 bind-requires : tie.Need-bind-requires
 bind-requires c κs =
     let s = before-slice-known (c .before .before .before .before) in
@@ -111,12 +105,6 @@ returns-2 c =
     let a = at-start .args in
     formed-bind (a .proof .now) (a .ws .now) (a .used) (a .at) (a .next) (a .n) (a .m) (a .end) _ _ (c .before .before .before .before .if2 .taken)
     (at-bind .bind .ensures)
-
-mul-is-lam : tie.Need-mul-is-lam
-mul-is-lam c = search needs
-
-mul-pair : tie.Need-mul-pair
-mul-pair c = search needs
 
 pair-requires : tie.Need-pair-requires
 pair-requires c κs =
@@ -134,12 +122,6 @@ returns-3 c =
     formed-lam (a .proof .now) (a .ws .now) (a .used) (a .at) (a .next) (a .n) (a .m) (a .end) _ _ (c .before .before .before .before .if3 .taken)
     (at-pair .pair .ensures)
 
-mul-is-ret : tie.Need-mul-is-ret
-mul-is-ret c = search needs
-
-mul-pair-2 : tie.Need-mul-pair-2
-mul-pair-2 c = search needs
-
 pair-requires-2 : tie.Need-pair-requires-2
 pair-requires-2 c κs =
     let s = before-shared-slice-known2 (c .before .before .before .before .before) in
@@ -156,9 +138,6 @@ returns-4 c =
     formed-ret (a .proof .now) (a .ws .now) (a .used) (a .at) (a .next) (a .n) (a .m) (a .end) _ _ (c .before .before .before .before .if4 .taken)
     (at-pair2 .pair2 .ensures)
 
-mul-front-is : tie.Need-mul-front-is
-mul-front-is c = search needs
-
 front-is-requires : tie.Need-front-is-requires
 front-is-requires c κs = search needs
 
@@ -174,9 +153,6 @@ returns-5 c =
     formed-prop (a .proof .now) (a .ws .now) (a .used) (a .at) (a .next) (a .n) (a .m) (a .end) (others at-else4) (at-front-is .front-is .result)
     (is-prop at-front-is) (c .if5 .taken)
 
-mul-is-says : tie.Need-mul-is-says
-mul-is-says c = search needs
-
 same-length-6 : tie.Need-same-length-6
 same-length-6 c = search needs
 
@@ -188,9 +164,6 @@ returns-6 c =
     let a = at-start .args in
     formed-no-says (a .proof .now) (a .ws .now) (a .used) (a .at) (a .next) (a .n) (a .m) (a .end) (others at-else4) (at-front-is .front-is .result)
     (is-prop at-front-is) (c .before .if5 .left) (c .if6 .taken)
-
-mul-front-is-2 : tie.Need-mul-front-is-2
-mul-front-is-2 c = search needs
 
 front-is-requires-2 : tie.Need-front-is-requires-2
 front-is-requires-2 c κs = search needs
@@ -227,32 +200,23 @@ formed-spec =
     (tie.spec
     mul-word
     shared-slice-read-word
-    mul-is-app
     apply-requires
     same-length
     returns
-    mul-is-bind
     bind-requires
     same-length-2
     returns-2
-    mul-is-lam
-    mul-pair
     pair-requires
     same-length-3
     returns-3
-    mul-is-ret
-    mul-pair-2
     pair-requires-2
     same-length-4
     returns-4
-    mul-front-is
     front-is-requires
     same-length-5
     returns-5
-    mul-is-says
     same-length-6
     returns-6
-    mul-front-is-2
     front-is-requires-2
     same-length-7
     returns-7

@@ -39,9 +39,6 @@ fine : (c : tie.After-front-is) (a : ℕ) (q s : Term) →
     c .front-is .result ≡ same s P
 fine c a q s j = c .front-is .ensures s propA (j .type) refl tt
 
-mul-front-is : tie.Need-mul-front-is
-mul-front-is c = search needs
-
 front-is-requires : tie.Need-front-is-requires
 front-is-requires c κs = search needs
 
@@ -85,14 +82,8 @@ returns-2 c =
     λ x q s j. sign-long (a .proof .now) (a .ws .now) (a .at) (a .n) (a .end) x q s j (at-front-is .front-is .result) (fine at-front-is x q s j)
     (at-else1 .if1 .left) (omega (arith, c .if2 .taken))
 
-mul-ws : tie.Need-mul-ws
-mul-ws c = search needs
-
 slice-write-ws : tie.Need-slice-write-ws
 slice-write-ws c = search needs
-
-mul-ws-2 : tie.Need-mul-ws-2
-mul-ws-2 c = search needs
 
 mul-payload-of : tie.Need-mul-payload-of
 mul-payload-of c =
@@ -150,7 +141,6 @@ pub sign-spec : {M : Type 1} → statement M
 sign-spec =
     tie.close
     (tie.spec
-    mul-front-is
     front-is-requires
     same-length
     returns
@@ -158,9 +148,7 @@ sign-spec =
     add-words
     same-length-2
     returns-2
-    mul-ws
     slice-write-ws
-    mul-ws-2
     mul-payload-of
     shared-slice-read-payload-of
     payload-of-requires

@@ -4,34 +4,19 @@ use borrow.Author.Needs.{needs}
 use Rattle.rules.proofs.atom.sort.Statement.{statement}
 use Rattle.rules.proofs.atom.sort.Tie as tie
 
-mul-result : tie.Need-mul-result
-mul-result c = search needs
-
 returns : tie.Need-returns
 returns c = sort-is (c .before .args .tag) (simp (c .if1 .taken))
-
-mul-result-2 : tie.Need-mul-result-2
-mul-result-2 c = search needs
 
 returns-2 : tie.Need-returns-2
 returns-2 c = sort-is (c .before .before .args .tag) (simp (c .if2 .taken, c .before .if1 .left))
 
-mul-result-3 : tie.Need-mul-result-3
-mul-result-3 c = search needs
-
 returns-3 : tie.Need-returns-3
 returns-3 c = sort-is (c .before .before .before .args .tag) (simp (c .if3 .taken, c .before .if2 .left, c .before .before .if1 .left))
-
-mul-result-4 : tie.Need-mul-result-4
-mul-result-4 c = search needs
 
 returns-4 : tie.Need-returns-4
 returns-4 c =
     sort-is (c .before .before .before .before .args .tag) (simp
     (c .if4 .taken, c .before .if3 .left, c .before .before .if2 .left, c .before .before .before .if1 .left))
-
-mul-result-5 : tie.Need-mul-result-5
-mul-result-5 c = search needs
 
 returns-5 : tie.Need-returns-5
 returns-5 c =
@@ -42,13 +27,8 @@ pub sort-spec : {M : Type 1} → statement M
 sort-spec =
     tie.close
     (tie.spec
-    mul-result
     returns
-    mul-result-2
     returns-2
-    mul-result-3
     returns-3
-    mul-result-4
     returns-4
-    mul-result-5
     returns-5)

@@ -37,9 +37,6 @@ tag-of-requires c κs = search needs
 slice-read-if2 : tie.Need-slice-read-if2
 slice-read-if2 c = search needs
 
-mul-if2 : tie.Need-mul-if2
-mul-if2 c = search needs
-
 -- ---- places, from a later one back to an earlier one
 
 abbrev before-tag-of : tie.After-tag-of → tie.Start
@@ -80,9 +77,6 @@ returns-2 c =
 
 slice-read-if4 : tie.Need-slice-read-if4
 slice-read-if4 c = search needs
-
-mul-if4 : tie.Need-mul-if4
-mul-if4 c = search needs
 
 keep-says-requires : tie.Need-keep-says-requires
 keep-says-requires c κs =
@@ -151,9 +145,6 @@ returns-6 c =
     λ o a A j. binder-fails (s .args .used) (s .pre .room) (s .pre .small) j (λ e. at-else3 .if3 .left (at-tag-of .tag-of .ensures ∙ e))
     (at-kind .kind .ensures) (at-then5 .if5 .taken) (c .if6 .left) (at-domain .domain .ensures)
 
-mul-front-is : tie.Need-mul-front-is
-mul-front-is c = search needs
-
 front-is-requires : tie.Need-front-is-requires
 front-is-requires c κs = search needs
 
@@ -189,11 +180,9 @@ enter-spec =
     shared-slice-read-word
     tag-of-requires
     slice-read-if2
-    mul-if2
     returns
     returns-2
     slice-read-if4
-    mul-if4
     keep-says-requires
     same-length
     returns-3
@@ -206,7 +195,6 @@ enter-spec =
     same-length-2
     returns-5
     returns-6
-    mul-front-is
     front-is-requires
     same-length-3
     returns-7

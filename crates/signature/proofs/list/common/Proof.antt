@@ -11,15 +11,6 @@ use borrow.Author.Needs.{needs}
 use Rattle.signature.proofs.list.common.Statement.{statement}
 use Rattle.signature.proofs.list.common.Tie as tie
 
-mul-pi : tie.Need-mul-pi
-mul-pi c = search needs
-
-mul-string : tie.Need-mul-string
-mul-string c = search needs
-
-mul-prop : tie.Need-mul-prop
-mul-prop c = search needs
-
 slice-aggregate-same : tie.Need-slice-aggregate-same
 slice-aggregate-same c = search needs
 
@@ -44,9 +35,6 @@ pub common-spec : {M : Type 1} → statement M
 common-spec =
     tie.close
     (tie.spec
-    mul-pi
-    mul-string
-    mul-prop
     slice-aggregate-same
     same-requires
     returns

@@ -138,9 +138,6 @@ enum-told c = search needs
 enum-told-2 : tie.Need-enum-told-2
 enum-told-2 c = search needs
 
-mul-front-is : tie.Need-mul-front-is
-mul-front-is c = search needs
-
 front-is-requires : tie.Need-front-is-requires
 front-is-requires c κs = search needs
 
@@ -198,7 +195,6 @@ constant-spec =
     check-term-requires
     enum-told
     enum-told-2
-    mul-front-is
     front-is-requires
     same-length
     returns-5

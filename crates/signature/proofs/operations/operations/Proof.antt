@@ -17,10 +17,10 @@ use Rattle.signature.proofs.operations.operations.Statement.{statement}
 use Rattle.signature.proofs.operations.operations.Tie as tie
 
 abbrev Inv-loop : tie.InvT-loop
-Inv-loop sig table n count pi string prop permit receipt i₀ i = (i ≤ count) × ((Σ : List Term) → Declared sig table Σ → operations Σ i ≡ true)
+Inv-loop sig table n count permit receipt i₀ i = (i ≤ count) × ((Σ : List Term) → Declared sig table Σ → operations Σ i ≡ true)
 
 abbrev μ-loop : tie.MeasureT-loop
-μ-loop sig table n count pi string prop permit receipt i₀ i = count - i
+μ-loop sig table n count permit receipt i₀ i = count - i
 
 -- ---- places, from a later one back to an earlier one
 
@@ -54,15 +54,6 @@ returns c = λ Σ d. no-operation Σ (c .before .before .before .args .n) (c .if
 
 returns-2 : tie.Need-returns-2 Inv-loop μ-loop
 returns-2 c = λ Σ d. too-many-operations Σ (c .before .before .before .before .args .n) (c .if2 .taken)
-
-mul-pi : tie.Need-mul-pi Inv-loop μ-loop
-mul-pi c = search needs
-
-mul-string : tie.Need-mul-string Inv-loop μ-loop
-mul-string c = search needs
-
-mul-prop : tie.Need-mul-prop Inv-loop μ-loop
-mul-prop c = search needs
 
 loop-holds : tie.Need-loop-holds Inv-loop μ-loop
 loop-holds c = (omega arith, λ Σ d. no-operations Σ)
@@ -134,9 +125,6 @@ operations-spec =
     μ-loop
     returns
     returns-2
-    mul-pi
-    mul-string
-    mul-prop
     loop-holds
     mul-constant-is
     slice-aggregate-constant-is

@@ -57,9 +57,6 @@ enum-known-typed c = search needs
 enum-known-typed-2 : tie.Need-enum-known-typed-2
 enum-known-typed-2 c = search needs
 
-mul-front-is : tie.Need-mul-front-is
-mul-front-is c = search needs
-
 front-is-requires : tie.Need-front-is-requires
 front-is-requires c κs = search needs
 
@@ -110,7 +107,6 @@ check-statement-spec =
     check-term-requires
     enum-known-typed
     enum-known-typed-2
-    mul-front-is
     front-is-requires
     same-length
     returns
