@@ -12,7 +12,7 @@ use Rattle.logic.specs.Result.{pick}
 use Rattle.logic.specs.Term.{propA, typeA, stringA, prinA, kindPA, kindTA, constA, textA, nameA, Op, saysO, piO, lamO, appO, retO, bindO}
 use Rattle.logic.specs.Term.{binds, Term, atom, var, sign, node, word, tag-of, payload-of}
 use Rattle.logic.specs.Reading.{Shape, leaf, signed, branch, no-term, shape-of-tag, shape, Plain}
-use Rattle.logic.specs.Kind.{kind-atom, kind-variable, kind-sign, kind-node, kind-binder, kind-none, leafKind, opKind, kindOf, childrenOf, bindsOf}
+use Rattle.logic.specs.Kind.{kind-node, kind-binder, opKind, kindOf, bindsOf}
 use Rattle.logic.proofs.Basics.{clash}
 use Rattle.logic.proofs.Words.{first, head, shape-first, InRange}
 

@@ -12,7 +12,7 @@ use lib.Dec.{leb, ltb}
 use lib.ListN.{length, take, drop, getElem?, take-append-drop, length-append}
 use lib.Seq.{take-append-seam, drop-append-seam, length-take-le}
 use borrow.Author.Tests.{leb-true, le-leb, ltb-true, lt-ltb}
-use Rattle.logic.specs.Limits.{most-constants, most-constant-words, most-nesting}
+use Rattle.logic.specs.Limits.{most-constants, most-constant-words, most-nesting, most-words}
 use Rattle.logic.specs.Result.{Result, ok, refused}
 use Rattle.logic.specs.Term.{Term, P, S, KindP, Pi}
 use Rattle.logic.specs.Scope.{Signature}
@@ -70,23 +70,23 @@ listed (suc k) at Σ (n ∷ ws) {Σ′} sig e =
     rw (long, take-append-drop n ws) at (one-more (ltb-true (length Σ) most-constants few) w (h .derivation) (h .measured)
     (listed k _ (Σ ++ (A ∷ [])) (drop n ws) (extend sig (h .derivation)) e₂))
 
+-- the words of a constant's type are those of a term
+pub constant-term : {q : List ℕ} {A : Term} → WordsOf most-constant-words most-nesting q A → WordsOf most-words most-nesting q A
+constant-term w = record {
+  plain = w .plain;
+  words = w .words;
+  some-word = w .some-word;
+  not-more = omega (arith, w .not-more);
+  nested = w .nested;
+}
+
 accepts : {Σ Σ′ : List Term} {ws : List ℕ} (k at : ℕ) → Signature Σ → length ws < k → Lists Σ ws Σ′ → constants k at Σ ws ≡ ok Σ′
 unfolding constants
 accepts zero at sig l no-more = absurd (omega arith)
 accepts (suc k) at sig l no-more = refl
 accepts zero at sig l (one-more f w D m ls) = absurd (omega arith)
 accepts {Σ} (suc k) at sig l (one-more {q} {ws} {A} f w D m ls) =
-    let h : Passes Σ q A KindP = record {
-      term = record {
-        plain = w .plain;
-        words = w .words;
-        some-word = w .some-word;
-        not-more = omega (arith, w .not-more);
-        nested = w .nested;
-      };
-      derivation = D;
-      measured = m;
-    } in
+    let h : Passes Σ q A KindP = record { term = constant-term w; derivation = D; measured = m } in
     let fits : length q ≤ length (q ++ ws) = simp length-append (omega arith) in
     rw (take-append-seam q ws, drop-append-seam q ws) (pass _ _
     (true-both (true-both (true-both (lt-ltb (length Σ) most-constants f) (le-leb 1 (length q) (w .some-word)))

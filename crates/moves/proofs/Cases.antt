@@ -1,23 +1,17 @@
 -- The term that stands at a place, by the kind that the code found: a law of the terms of that kind is one of any term
 -- that stands there. And answers that are given where a test passes.
-use Prim.Native.Nat.{ℕ, _≤_, _<_}
+use Prim.Native.Nat.{ℕ, _≤_}
 use native.Mathlib.Omega.{arith}
 use mathlib.Core.Path.{_≡_, refl}
 use mathlib.Core.Bool.{Bool, true, false}
 use mathlib.Core.List.{List}
 use mathlib.Core.Option.{some, none}
-use lib.ListN.{length}
 use Rattle.logic.specs.Result.{pick}
 use Rattle.logic.specs.Term.{Atom, Op, Term, atom, var, sign, node}
 use Rattle.logic.specs.Kind.{kind-atom, kind-variable, kind-sign, kind-node, opKind}
 use Rattle.logic.proofs.Basics.{clash, some-inj}
 use Rattle.logic.proofs.Shapes.{headKind, op-low}
 use Rattle.words.specs.Place.{At}
-use Rattle.words.proofs.Places.{at-end, size-pos}
-
--- a term has a first word
-pub at-within : {ws : List ℕ} {at : ℕ} {t : Term} → At ws at t → at < length ws
-at-within {t} h = omega (arith, at-end h, size-pos t)
 
 module _ (P : Term → Type 0) {ws : List ℕ} {at k : ℕ} (found : (t : Term) → At ws at t → k ≡ headKind t) where
   cases : ((a : Atom) → k ≡ kind-atom → At ws at (atom a) → P (atom a))

@@ -8,16 +8,17 @@ use mathlib.Core.Option.{Option, some, none}
 use lib.ListN.{length, take, drop, set, getD, length-set}
 use lib.Dec.{leb}
 use lib.IntN.{ℤ, pos}
-use borrow.Author.Tests.{le-leb, lt-leb, leb-true, leb-false, eq-eqb, ne-eqb, lt-ltb, le-ltb}
+use borrow.Author.Tests.{le-leb, lt-leb, leb-true, leb-false}
 use Rattle.logic.specs.Tags.{tag-variable}
 use Rattle.logic.specs.Result.{pick}
 use Rattle.logic.specs.Term.{Atom, Op, Term, atom, var, sign, node, payload-of, word, opWord, encode, size, binds, under}
 use Rattle.logic.specs.Move.{shift, raise, fillAt}
 use Rattle.logic.specs.Kind.{kind-node, opKind}
-use Rattle.logic.proofs.Words.{encode-size}
+use Rattle.logic.proofs.Words.{encode-size, size-pos}
+use Rattle.logic.proofs.Fill.{fill-below, fill-here, fill-above}
 use Rattle.words.specs.Place.{At, Is, written}
 use Rattle.words.proofs.Lists.{written-set, written-node, length-written}
-use Rattle.words.proofs.Places.{at-head, part-is, at-left, at-right, size-pos, size-is, payload, deeper}
+use Rattle.words.proofs.Places.{at-head, part-is, at-left, at-right, size-is, payload, deeper}
 use Rattle.moves.specs.Shift.{Shifted}
 use Rattle.moves.specs.Fill.{filled-answer, FilledTo}
 use Rattle.moves.specs.declared.fill.Filled.{Filled}
@@ -72,18 +73,6 @@ module _ (t u : Term) (at to len : ℕ) {r : Filled} (e : filled-answer r ≡ wi
 
 -- ---- a variable
 
-fill-same : (c n : ℕ) (e : Term) → n ≡ c → fillAt c e (var n) ≡ raise c e
-unfolding fillAt
-fill-same c n e q = simp (le-ltb n c (omega arith), eq-eqb n c q)
-
-fill-low : (c n : ℕ) (e : Term) → n < c → fillAt c e (var n) ≡ var n
-unfolding fillAt
-fill-low c n e q = simp (lt-ltb n c q)
-
-fill-high : (c n : ℕ) (e : Term) → c < n → fillAt c e (var n) ≡ var (n - 1)
-unfolding fillAt
-fill-high c n e q = simp (le-ltb n c (omega arith), ne-eqb n c (λ x. omega arith))
-
 -- n is the number that was found of the variable m
 module _ (ws fs : List ℕ) (at c : ℕ) (old : List ℕ) (to n : ℕ) (l : to ≤ length old) (j : n ≡ payload-of (getD ws at 0))
     (m : ℕ) (e : Term) (h : At ws at (var m)) (i : Is fs e) where
@@ -104,18 +93,18 @@ module _ (ws fs : List ℕ) (at c : ℕ) (old : List ℕ) (to n : ℕ) (l : to �
   unfolding size
   same-done {z} new w p f q s =
       let b = size-is fs e i in
-      replaced (fill-same c m e (sym number ∙ q))
+      replaced (fill-here e (sym number ∙ q))
       (done (var m) (raise c e) at old to new (at + 1) (to + w) refl (omega (arith, s .count, raised-words)) (omega (arith, s .count))
       (s .words ∙ ap (λ (v : ℤ). written old to (encode (shift 0 v e))) p))
 
   pub same-over : length old - to < length fs → n ≡ c → FilledTo (var m) (fillAt c e (var m)) at old to old Over
-  same-over f q = replaced (fill-same c m e (sym number ∙ q)) (over (var m) (raise c e) at old to old (omega (arith, raised-words)))
+  same-over f q = replaced (fill-here e (sym number ∙ q)) (over (var m) (raise c e) at old to old (omega (arith, raised-words)))
 
   pub low-done : to < length old → n < c → FilledTo (var m) (fillAt c e (var m)) at old to (set old to (getD ws at 0)) (Done (at + 1) (to + 1))
   unfolding size encode
   low-done r q =
       let x = number in
-      replaced (fill-low c m e (omega arith))
+      replaced (fill-below e (omega arith))
       (done (var m) (var m) at old to _ (at + 1) (to + 1) refl refl (omega arith)
       (written-set old to _ r ∙ ap (λ (v : ℕ). written old to (v ∷ [])) (at-head h)))
 
@@ -124,7 +113,7 @@ module _ (ws fs : List ℕ) (at c : ℕ) (old : List ℕ) (to n : ℕ) (l : to �
   unfolding size encode
   high-done r q d =
       let x = number in
-      replaced (fill-high c m e (omega arith))
+      replaced (fill-above e (omega arith))
       (done (var m) (var (m - 1)) at old to _ (at + 1) (to + 1) refl refl (omega arith)
       (written-set old to _ r ∙ ap (λ (v : ℕ). written old to (word tag-variable (v - 1) ∷ [])) x))
 

@@ -2,9 +2,9 @@
 use Prim.Native.Nat.{ℕ, suc, _+_, _-_, _≤_, _<_}
 use native.Mathlib.Omega.{arith}
 use mathlib.Core.Path.{_≡_, refl, sym, ap, ap₂, subst, _∙_}
-use mathlib.Core.List.{List, [], _∷_, _++_, append-assoc}
+use mathlib.Core.List.{List, [], _∷_}
 use lib.ListN.{length, take, drop, set, getD}
-use lib.Seq.{set-getD, take-at, drop-at, take-length, length-take-le}
+use lib.Seq.{set-getD, take-length}
 use lib.Dec.{ltb}
 use lib.IntN.{ℤ}
 use Rattle.logic.specs.Tags.{tag-variable}
@@ -15,7 +15,7 @@ use Rattle.logic.specs.Kind.{kind-variable, kind-node, opKind}
 use Rattle.logic.proofs.Words.{encode-size}
 use Rattle.logic.proofs.Shapes.{headKind, op-low}
 use Rattle.words.specs.Place.{At, Is, written}
-use Rattle.words.proofs.Lists.{length-head, written-set, written-node, written-same}
+use Rattle.words.proofs.Lists.{written-set, written-node, written-same, written-over, drop-written}
 use Rattle.words.proofs.Places.{at-head, at-end, at-part, payload, at-after, at-left, at-right, deeper}
 use Rattle.moves.specs.Shift.{Shifted}
 
@@ -85,16 +85,6 @@ module _ (ws : List ℕ) (at c : ℕ) (z : ℤ) where
 
 -- ---- copied, and then shifted in place
 
--- words written over as many others
-written-over : (old : List ℕ) (to : ℕ) (xs ys : List ℕ) → to ≤ length old → length xs ≡ length ys
-    → written (written old to xs) to ys ≡ written old to ys
-written-over old to xs ys l e =
-    let rest : List ℕ = drop (to + length xs) old in
-    let m : to + length xs ≡ to + length ys = ap (λ (k : ℕ). to + k) e in
-    ap₂ (λ (x y : List ℕ). x ++ ys ++ y)
-    (ap (take to) (append-assoc (take to old) xs rest) ∙ take-at (take to old) (xs ++ rest) to (length-take-le to old l))
-    (drop-at (take to old ++ xs) rest (to + length ys) (length-head old to xs l ∙ m) ∙ ap (λ (k : ℕ). drop k old) m)
-
 module _ (src old mid : List ℕ) (to : ℕ) (l : to ≤ length old) (w : mid ≡ written old to (take (length src) (drop 0 src)))
     {t : Term} (i : Is src t) where
   copied : mid ≡ written old to (encode t)
@@ -107,7 +97,7 @@ module _ (src old mid : List ℕ) (to : ℕ) (l : to ≤ length old) (w : mid �
       record {
         plain = i .plain;
         rest = rest;
-        words = ap (drop to) (copied ∙ append-assoc (take to old) (encode t) rest) ∙ drop-at (take to old) (encode t ++ rest) to (length-take-le to old l);
+        words = ap (drop to) copied ∙ drop-written old (encode t) to l;
       }
 
   pub copy-shifted : {c : ℕ} {z z′ : ℤ} {new : List ℕ} {r : ℕ} → z′ ≡ z → ((u : Term) → At mid to u → Shifted u c z′ mid to new r)

@@ -17,6 +17,7 @@ use Rattle.logic.specs.Infer.{same, condition, body, measured}
 use Rattle.logic.proofs.Results.{pass}
 use Rattle.logic.proofs.Stopped.{fail}
 use Rattle.logic.proofs.Proposition.{same-true}
+use Rattle.logic.proofs.Words.{shape-op, node-plain}
 use Rattle.words.specs.Place.{At}
 use Rattle.words.specs.Typed.{TypeAt}
 use Rattle.words.proofs.Places.{at-head, at-left, at-right}
@@ -28,19 +29,10 @@ use Rattle.results.specs.Results.{Applies, Appliable, Pairs, Pairable, B
 use Rattle.rules.specs.declared.derivation.Derivation.{Derivation}
 use Rattle.rules.specs.declared.derivation.Derivation.the-variants.{Typed, Refused}
 use Rattle.rules.proofs.Fronts.{measured-fits, refuses, types}
-use Rattle.results.proofs.Results.{node-plain}
-
-op-shape : (o : Op) → shape (opWord o) ≡ branch o
-op-shape saysO = refl
-op-shape piO = refl
-op-shape lamO = refl
-op-shape appO = refl
-op-shape retO = refl
-op-shape bindO = refl
 
 -- a word names one node
 op-is : (w : ℕ) (o o′ : Op) → w ≡ opWord o → eqb w (opWord o′) ≡ true → o ≡ o′
-op-is w o o′ p e = let q : branch o ≡ branch o′ = sym (op-shape o) ∙ ap shape (sym p ∙ eqb-true w (opWord o′) e) ∙ op-shape o′ in cc
+op-is w o o′ p e = let q : branch o ≡ branch o′ = sym (shape-op o) ∙ ap shape (sym p ∙ eqb-true w (opWord o′) e) ∙ shape-op o′ in cc
 
 module _ (proof ws : List ℕ) (used at next n m end : ℕ) where
   -- ---- what each rule needs
@@ -52,7 +44,7 @@ module _ (proof ws : List ℕ) (used at next n m end : ℕ) where
       let e : end ≡ at + suc (size a + size b) = j .end-is in
       let k = j .next-is in
       record {
-        function = subst (At ws 0) i (record { plain = node-plain A piO (first A) (second A) i (t .plain); rest = t .rest; words = t .words });
+        function = subst (At ws 0) i (record { plain = node-plain i (t .plain); rest = t .rest; words = t .words });
         function-words = j .first-words ∙ ap size i;
         argument = j .second-type;
         argument-words = j .second-words;

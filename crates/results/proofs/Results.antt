@@ -26,7 +26,7 @@ use Rattle.logic.proofs.Results.{pass}
 use Rattle.logic.proofs.Stopped.{fail}
 use Rattle.logic.proofs.Free.{lower-raise}
 use Rattle.logic.proofs.Proposition.{same-yes, same-no}
-use Rattle.logic.proofs.Words.{head, first, shape-first, InRange, plain-in-range, encode-size, prefix-free}
+use Rattle.logic.proofs.Words.{head, first, shape-first, InRange, plain-in-range, encode-size, prefix-free, size-pos, node-plain}
 use Rattle.words.specs.Place.{At, Is, written}
 use Rattle.words.specs.Typed.{TypeAt}
 use Rattle.moves.specs.Shift.{Shifted}
@@ -35,7 +35,7 @@ use Rattle.moves.specs.Occurrence.{absent}
 use Rattle.moves.specs.declared.fill.Filled.{Filled}
 use Rattle.moves.specs.declared.fill.Filled.the-variants.{Done, Over}
 use Rattle.words.proofs.Lists.{written-cons, written-node, written-front}
-use Rattle.words.proofs.Places.{size-pos, words-head, at-head, at-part, part-is, at-sign, at-left, at-right}
+use Rattle.words.proofs.Places.{words-head, at-head, at-part, part-is, at-sign, at-left, at-right}
 use Rattle.words.proofs.Types.{in-range}
 use Rattle.moves.proofs.Shifts.{size-shift, length-shift}
 use Rattle.moves.proofs.Fills.{done-is, over-is}
@@ -223,11 +223,6 @@ plain-lower c (sign n q) p = p
 plain-lower c (node o a b) p = (plain-lower c a (p .0), plain-lower (under (binds o) suc c) b (p .1))
 
 -- a type that is a node is no sort
-pub node-plain : (A : Term) (o : Op) (a b : Term) → A ≡ node o a b → PlainType A → Plain A
-node-plain A o a b e (inl p) = p
-node-plain A o a b e (inr (inl q)) = absurd (clash (cc))
-node-plain A o a b e (inr (inr q)) = absurd (clash (cc))
-
 -- B is a type that the raised principal p says
 pub record Said (p B : Term) : Type 0 where
   pub right : Term
@@ -342,7 +337,7 @@ module _ (ws : List ℕ) (used at m end : ℕ) (p q B : Term) (j : Binds ws used
         saying = said-by ws said p B (j .type) (j .principal) (agree ∙ kept-part)
 
         pub said-at : At ws 0 B
-        said-at = record { plain = node-plain B _ _ _ (saying .is) (j .type .plain); rest = j .type .rest; words = j .type .words }
+        said-at = record { plain = node-plain (saying .is) (j .type .plain); rest = j .type .rest; words = j .type .words }
 
         pub right-at : At ws said (saying .right)
         right-at =

@@ -1,5 +1,5 @@
 -- What the code between the children of a node answers and writes.
-use Prim.Native.Nat.{ℕ, suc, _+_, _-_, _≤_, _<_}
+use Prim.Native.Nat.{ℕ, suc, _+_, _-_, _≤_}
 use native.Mathlib.Omega.{arith}
 use mathlib.Core.Path.{_≡_, refl, sym, ap, ap₂, subst, _∙_}
 use mathlib.Core.Logic.{inl, inr}
@@ -16,17 +16,18 @@ use Rattle.logic.specs.Tags.{tag-app, tag-bind, tag-kindP, tag-kindT}
 use Rattle.logic.specs.Term.{propA, typeA, kindPA, Op, saysO, piO, lamO, appO, retO, bindO, Op-discrete, Term, atom, var, sign, node, N, Says, word}
 use Rattle.logic.specs.Term.{tag-of, atomWord, opWord, encode, size}
 use Rattle.logic.specs.Move.{raise}
-use Rattle.logic.specs.Reading.{branch, shape, Plain, PlainType}
+use Rattle.logic.specs.Reading.{branch, shape, PlainType}
 use Rattle.logic.specs.Infer.{same, condition, domain, Parts, parts}
 use Rattle.logic.proofs.Basics.{clash}
 use Rattle.logic.proofs.Results.{then-is}
 use Rattle.logic.proofs.Stopped.{stop-then}
-use Rattle.logic.proofs.Words.{first, head, shape-first, encode-size}
+use Rattle.logic.proofs.Words.{first, head, shape-first, encode-size, shape-op, node-plain, op-below}
 use Rattle.logic.specs.Kind.{kind-binder, opKind, kindOf}
 use Rattle.words.specs.Place.{At, written}
 use Rattle.moves.specs.Shift.{Shifted}
 use Rattle.words.specs.Typed.{TypeAt}
 use Rattle.words.proofs.Places.{words-head, at-left}
+use Rattle.words.proofs.Lists.{drop-written, written-before, written-inside}
 use Rattle.moves.proofs.Shifts.{length-shift}
 use Rattle.rules.specs.Rule.{ready}
 use Rattle.rules.specs.Scope.{tail, entry-head, entry}
@@ -34,7 +35,7 @@ use Rattle.rules.specs.Form.{front-words, level-words}
 use Rattle.rules.specs.Enter.{Enters, keep-of, entered-answer, Entry-kept, Entering, Kept, Keepable}
 use Rattle.rules.specs.declared.enter.Entered.the-variants.{Fits, Fails}
 use Rattle.rules.proofs.Fronts.{atom-first, type-part}
-use Rattle.rules.proofs.Kepts.{drop-written, written-before, written-inside, kept-tail, kept-type, kept-none}
+use Rattle.rules.proofs.Kepts.{kept-tail, kept-type, kept-none}
 
 -- ---- a domain
 
@@ -46,22 +47,6 @@ pub domain-first : (A : Term) (w : ℕ) → PlainType A → w ≡ first A → do
 domain-first A w p e = let is = atom-first A w p e in ap₂ _||_ (ap₂ _||_ (is typeA tt) (is propA tt)) (is kindPA tt)
 
 -- ---- a type that is a node
-
-shape-op : (o : Op) → shape (opWord o) ≡ branch o
-shape-op saysO = refl
-shape-op piO = refl
-shape-op lamO = refl
-shape-op appO = refl
-shape-op retO = refl
-shape-op bindO = refl
-
-op-below : (o : Op) → opWord o < word tag-kindP 0
-op-below saysO = omega arith
-op-below piO = omega arith
-op-below lamO = omega arith
-op-below appO = omega arith
-op-below retO = omega arith
-op-below bindO = omega arith
 
 record NodeOf (o : Op) (A : Term) : Type 0 where
   left : Term
@@ -99,11 +84,6 @@ parts-none o (node h x y) n = go (Op-discrete o h)
 
 -- ---- a Bind's entry
 
-says-plain : (p q : Term) → PlainType (Says p q) → Plain (Says p q)
-says-plain p q (inl h) = h
-says-plain p q (inr (inl e)) = absurd (clash (cc))
-says-plain p q (inr (inr e)) = absurd (clash (cc))
-
 pub says-size : (p q : Term) → size (Says p q) ≡ 1 + size p + size q
 unfolding size
 says-size p q = let e : suc (size p + size q) ≡ 1 + size p + size q = omega arith in e
@@ -130,7 +110,7 @@ module _ {ws mid : List ℕ} {n : ℕ} {p q : Term} (used : ℕ) (h : TypeAt ws 
   said =
       let start : ℕ = length ws - (used + (entry-head + n)) + entry-head in
       let i : At mid start (Says p q) = record {
-        plain = says-plain p q (h .plain);
+        plain = node-plain refl (h .plain);
         rest = drop (start + length (take n ws)) ws;
         words = ap (drop start) e ∙ drop-written ws (take n ws) start (omega arith) ∙ ap (λ (x : List ℕ). x ++ drop (start + length (take n ws)) ws) copied;
       } in

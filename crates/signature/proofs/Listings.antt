@@ -4,7 +4,7 @@ use native.Mathlib.Omega.{arith}
 use native.Mathlib.Numerals.{add-one}
 use mathlib.Core.Path.{_≡_, refl, sym, ap, ap₂, subst, _∙_}
 use mathlib.Core.Logic.{inl, inr}
-use mathlib.Core.Bool.{Bool, true, false, _&&_}
+use mathlib.Core.Bool.{Bool, true, false, _&&_, and-false}
 use mathlib.Core.List.{List, [], _∷_, _++_}
 use mathlib.Core.Option.{some}
 use lib.Dec.{leb, ltb}
@@ -23,7 +23,7 @@ use Rattle.logic.specs.Check.{term-of, Checked}
 use Rattle.logic.proofs.Basics.{clash, no-entry}
 use Rattle.logic.proofs.Words.{encode-size}
 use Rattle.logic.proofs.Results.{not-ok, ok-inj, bind-is, pass, both-true, true-both}
-use Rattle.logic.proofs.Stopped.{stop}
+use Rattle.logic.proofs.Stopped.{stop, fail}
 use Rattle.logic.proofs.Signatures.{entry-last, extend, empty-signature}
 use Rattle.words.specs.Place.{At}
 use Rattle.words.specs.Typed.{TypeAt}
@@ -34,7 +34,6 @@ use Rattle.rules.specs.Form.{Front}
 use Rattle.rules.proofs.Fronts.{typed-by, refused-by}
 use Rattle.typing.specs.Check.{Constants-of, typed-term, Judged}
 use Rattle.signature.specs.Listing.{passed, constant-at, Read-as}
-use Rattle.typing.proofs.Checks.{and-false, require-false}
 use Rattle.rules.specs.declared.derivation.Derivation.{Derivation}
 use Rattle.rules.specs.declared.derivation.Derivation.the-variants.{Typed, Refused}
 use Rattle.signature.specs.declared.list.Listed.the-variants.{Accepted, Bad}
@@ -150,8 +149,8 @@ bad-constant k at Σ (n ∷ ws) l e = go (ltb (length Σ) most-constants) (lista
     go : (c b : Bool) → ltb (length Σ) most-constants ≡ c → listable n ws ≡ b → (b && passed (constant Σ (take n ws))) ≡ false
         → (require (ltb (length Σ) most-constants && leb 1 n && leb n most-constant-words && leb n (length ws)) bad-signature at >>
         (at-constant at (constant Σ (take n ws)) >>= λ A. constants k (at + 1 + n) (Σ ++ (A ∷ [])) (drop n ws))) ≡ refused bad-signature at
-    go false b p q f = require-false _ bad-signature at _ (ap (λ (x : Bool). x && leb 1 n && leb n most-constant-words && leb n (length ws)) p)
-    go true false p q f = require-false _ bad-signature at _ (with-count _ n ws p ∙ q)
+    go false b p q f = fail bad-signature at _ (ap (λ (x : Bool). x && leb 1 n && leb n most-constant-words && leb n (length ws)) p)
+    go true false p q f = fail bad-signature at _ (with-count _ n ws p ∙ q)
     go true true p q f = pass bad-signature at (with-count _ n ws p ∙ q) (no-constant (constant Σ (take n ws)) at _ f)
 
 -- or with one too many
@@ -159,7 +158,7 @@ full-list : (k at : ℕ) (Σ : List Term) (ws : List ℕ) → 0 < length ws → 
 unfolding constants
 full-list k at Σ [] l h = absurd (omega arith)
 full-list k at Σ (n ∷ ws) l h =
-    require-false _ bad-signature at _ (ap (λ (x : Bool). x && leb 1 n && leb n most-constant-words && leb n (length ws)) (le-ltb (length Σ) most-constants h))
+    fail bad-signature at _ (ap (λ (x : Bool). x && leb 1 n && leb n most-constant-words && leb n (length ws)) (le-ltb (length Σ) most-constants h))
 
 -- one constant more, whose type A stands behind its length word
 pub record One (Σ : List Term) (k at : ℕ) (ws : List ℕ) : Type 0 where

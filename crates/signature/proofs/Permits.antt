@@ -4,7 +4,7 @@ use native.Mathlib.Omega.{arith}
 use native.Mathlib.Decide.{decLt}
 use native.Mathlib.Numerals.{add-one}
 use mathlib.Core.Path.{_≡_, refl, sym, ap, subst, _∙_}
-use mathlib.Core.Bool.{Bool, true, false, _&&_}
+use mathlib.Core.Bool.{Bool, true, false, _&&_, and-false}
 use mathlib.Core.List.{List}
 use lib.Dec.{leb}
 use lib.ListN.{length, take, drop, getD, getElem?}
@@ -18,7 +18,6 @@ use Rattle.words.proofs.Places.{part-is}
 use Rattle.words.proofs.Sames.{same-types}
 use Rattle.rules.specs.Scope.{Declared}
 use Rattle.rules.proofs.Atoms.{no-element, ConstantAt}
-use Rattle.typing.proofs.Checks.{and-false}
 
 -- ---- one constant
 

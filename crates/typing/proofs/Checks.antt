@@ -2,7 +2,7 @@
 use Prim.Native.Nat.{ℕ, _+_, _≤_, _<_}
 use native.Mathlib.Omega.{arith}
 use mathlib.Core.Path.{_≡_, refl, sym, ap, subst, _∙_}
-use mathlib.Core.Bool.{Bool, true, false, _&&_}
+use mathlib.Core.Bool.{Bool, true, _&&_, and-false}
 use mathlib.Core.List.{List, []}
 use mathlib.Core.Option.{none}
 use lib.Dec.{leb}
@@ -10,14 +10,14 @@ use lib.ListN.{length}
 use borrow.Author.Tests.{le-leb, lt-leb}
 use Rattle.logic.specs.Limits.{most-nesting}
 use Rattle.logic.specs.Refusals.{term-length, malformed, nesting}
-use Rattle.logic.specs.Result.{Result, ok, refused, _>>=_, _>>_, require, nowhere}
+use Rattle.logic.specs.Result.{Result, ok, refused, _>>=_, _>>_, nowhere}
 use Rattle.logic.specs.Term.{Term, size}
 use Rattle.logic.specs.Scope.{no-binder}
 use Rattle.logic.specs.Infer.{infer}
 use Rattle.logic.specs.Reading.{read-whole, too-deep}
-use Rattle.logic.proofs.Basics.{clash}
 use Rattle.logic.proofs.Results.{pass, true-both}
 use Rattle.logic.proofs.Searches.{too-deep-right}
+use Rattle.logic.proofs.Stopped.{fail}
 use Rattle.words.specs.Place.{Is}
 use Rattle.words.specs.Parsing.{whole}
 use Rattle.words.specs.Nesting.{nested-to}
@@ -31,27 +31,19 @@ use Rattle.typing.specs.Check.{Constants-of, typed-term, Judged}
 use Rattle.rules.specs.declared.derivation.Derivation.{Derivation}
 use Rattle.rules.specs.declared.derivation.Derivation.the-variants.{Refused}
 
-judged-refused : (o : Result Term) (end : ℕ) (new : List ℕ) (m p : ℕ) → o ≡ refused m p → Judged o end new (Refused m p)
+pub judged-refused : (o : Result Term) (end : ℕ) (new : List ℕ) (m p : ℕ) → o ≡ refused m p → Judged o end new (Refused m p)
 judged-refused o end new m p e = subst (λ (x : Result Term). Judged x end new (Refused m p)) (sym e) (record { answer = refl; front = tt })
-
-pub and-false : (a : Bool) → (a && false) ≡ false
-and-false true = refl
-and-false false = refl
-
-pub require-false : {X : Type 0} (b : Bool) (m p : ℕ) (r : Result X) → b ≡ false → (require b m p >> r) ≡ refused m p
-require-false true m p r e = absurd (clash (cc))
-require-false false m p r e = refl
 
 module _ (Σ : List Term) (most deep : ℕ) (ws new : List ℕ) where
   pub empty-term : length ws < 1 → Judged (typed-term Σ most deep ws) (length ws) new (Refused term-length 0)
   empty-term h =
       judged-refused _ _ new term-length 0 (ap (λ x. x >>= λ t. infer Σ [] 0 t)
-      (require-false (leb 1 (length ws) && leb (length ws) most) term-length 0 _ (ap (λ (x : Bool). x && leb (length ws) most) (lt-leb 1 (length ws) h))))
+      (fail term-length 0 _ (ap (λ (x : Bool). x && leb (length ws) most) (lt-leb 1 (length ws) h))))
 
   pub long-term : most < length ws → Judged (typed-term Σ most deep ws) (length ws) new (Refused term-length 0)
   long-term h =
       judged-refused _ _ new term-length 0 (ap (λ x. x >>= λ t. infer Σ [] 0 t)
-      (require-false (leb 1 (length ws) && leb (length ws) most) term-length 0 _
+      (fail term-length 0 _
       (ap (λ (x : Bool). leb 1 (length ws) && x) (lt-leb (length ws) most h) ∙ and-false (leb 1 (length ws)))))
 
   module _ (some-word : 1 ≤ length ws) (not-more : length ws ≤ most) where

@@ -3,7 +3,6 @@
 use Prim.Native.Nat.{ℕ, suc, _+_, _-_, _*_, _≤_}
 use native.Mathlib.Omega.{arith}
 use mathlib.Core.Path.{_≡_, refl, sym, ap, ap₂, subst, subst₂, _∙_}
-use mathlib.Core.Logic.{inl, inr}
 use mathlib.Core.List.{List, [], _∷_, _++_, append-assoc}
 use mathlib.Core.Option.{Option, some, none}
 use lib.ListN.{length, take, drop, getD, getElem?, length-append}
@@ -20,10 +19,9 @@ use Rattle.logic.specs.Typing.{Has, of-prop}
 use Rattle.logic.specs.Scope.{Context, no-binder, binder}
 use Rattle.logic.specs.Infer.{infer, measured, same, domain, Parts, parts}
 use Rattle.logic.specs.Reading.{PlainAtom, Plain, PlainType, depth}
-use Rattle.logic.proofs.Basics.{clash}
 use Rattle.logic.proofs.Results.{not-ok, ok-inj, followed, pass, require-ok}
 use Rattle.logic.proofs.Stopped.{not-refused, stopped-then}
-use Rattle.logic.proofs.Words.{encode-size, plain-in-range}
+use Rattle.logic.proofs.Words.{encode-size, plain-in-range, children-plain}
 use Rattle.logic.proofs.Range.{AllNamed, in-range-named, named-shift, plain-typed, inferred}
 use Rattle.logic.proofs.Substitution.{weaken-one}
 use Rattle.logic.proofs.Regularity.{said, stratify}
@@ -208,12 +206,6 @@ entry-short bindO at a A s e =
     let y = encode-size (second A) in
     omega arith
 
-says-plain : (p q : Term) → PlainType (Says p q) → Plain p × Plain q
-unfolding Plain
-says-plain p q (inl h) = h
-says-plain p q (inr (inl e)) = absurd (clash (cc))
-says-plain p q (inr (inr e)) = absurd (clash (cc))
-
 -- the entry of a binder, before those of the others, is that of one binder more
 pub binders-more : {proof h : List ℕ} {Γ : List Term} (o : Op) (at : ℕ) (a A : Term) → At proof (at + 1) a → PlainType A → ready o at A ≡ ok tt
     → Binders proof h Γ → Binders proof (entry o at a A ++ h) (within o a A Γ)
@@ -225,7 +217,7 @@ binders-more appO at a A i p e b = b
 binders-more retO at a A i p e b = b
 binders-more {proof} {h} {Γ} bindO at a A i p e b =
     let says : A ≡ Says (first A) (second A) = ready-says at A e in
-    let q : Plain (first A) × Plain (second A) = says-plain (first A) (second A) (subst PlainType says p) in
+    let q : Plain (first A) × Plain (second A) = children-plain (subst PlainType says p) in
     let x : List ℕ = opWord saysO ∷ encode (raise 1 (first A)) in
     let l : length (encode (raise 1 (first A))) ≡ size (first A) = encode-size _ ∙ size-shift 0 _ (first A) in
     let s : size A ≡ suc (size (first A) + size (second A)) = ap size says in
@@ -422,7 +414,7 @@ module _ {sig table proof ws : List ℕ} {floor used at left : ℕ} {Σ Γ : Lis
         unfolding size
         principal e =
             let h = said Σ (R .signature) (stratify Σ (R .signature) (R .context) (subst (Has Σ Γ a) e first-has)) in
-            let p : Plain (first A) × Plain (second A) = says-plain (first A) (second A) (subst PlainType e (B .plain)) in
+            let p : Plain (first A) × Plain (second A) = children-plain (subst PlainType e (B .plain)) in
             let s : size A ≡ suc (size (first A) + size (second A)) = ap size e in
             plain-typed (weaken-one Σ (R .signature) (second A) (h .0)) (omega (arith, size-shift 0 (pos 1) (first A), B .small, R .few))
             (named-shift 0 (pos 1) (first A) (in-range-named (first A) (plain-in-range (first A) (p .0))))
@@ -590,22 +582,8 @@ pub record NodeAt (sig table proof ws : List ℕ) (floor used at left : ℕ) (Σ
   pub b : Term
   pub ready-node : Ready sig table proof ws floor used at left Σ Γ (node o a b)
 
-pub node-case : (F : Term → Type 0) (t : Term) (k : ℕ) → k ≡ headKind t → (k ≡ kind-atom → ⊥) → (k ≡ kind-variable → ⊥) → (k ≡ kind-sign → ⊥)
-    → ((o : Op) (a b : Term) → F (node o a b)) → F t
-node-case F (atom a) k h n0 n1 n2 f = absurd (n0 h)
-node-case F (var n) k h n0 n1 n2 f = absurd (n1 h)
-node-case F (sign n q) k h n0 n1 n2 f = absurd (n2 h)
-node-case F (node o a b) k h n0 n1 n2 f = f o a b
-
 -- a Sign stands ready
 pub record SignAt (sig table proof ws : List ℕ) (floor used at left : ℕ) (Σ Γ : List Term) : Type 0 where
   pub n : ℕ
   pub q : Term
   pub ready-sign : Ready sig table proof ws floor used at left Σ Γ (sign n q)
-
-pub sign-case : {sig table proof ws : List ℕ} {floor used at left : ℕ} {Σ Γ : List Term} (k : ℕ) (t : Term) → k ≡ headKind t → k ≡ kind-sign
-    → Ready sig table proof ws floor used at left Σ Γ t → SignAt sig table proof ws floor used at left Σ Γ
-sign-case k (atom a) h z R = absurd (omega arith)
-sign-case k (var n) h z R = absurd (omega arith)
-sign-case k (sign n q) h z R = record { n = n; q = q; ready-sign = R }
-sign-case k (node o a b) h z R = absurd (omega (arith, op-low o))

@@ -7,9 +7,9 @@ use lib.ListN.{length, drop, getD}
 use Rattle.logic.specs.Term.{Term, atom, var, sign, node, encode, size}
 use Rattle.logic.specs.Reading.{Plain, shape}
 use Rattle.logic.specs.Kind.{childrenOf}
-use Rattle.logic.proofs.Words.{head, shape-first}
+use Rattle.logic.proofs.Words.{head, shape-first, size-pos}
 use Rattle.words.specs.Place.{At}
-use Rattle.words.proofs.Places.{size-pos, cons-tail, at-head}
+use Rattle.words.proofs.Places.{cons-tail, at-head}
 
 abbrev pub AllPlain : List Term → Type 0
 AllPlain [] = Unit {0}

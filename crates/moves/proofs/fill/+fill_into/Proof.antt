@@ -14,12 +14,12 @@ use Rattle.logic.specs.Move.{fillAt}
 use Rattle.logic.proofs.Shapes.{headKind}
 use Rattle.logic.proofs.word.kind.Reads as kind-reads
 use Rattle.words.specs.Place.{At}
-use Rattle.words.proofs.Places.{at-kind, at-end, Halves, halves}
+use Rattle.words.proofs.Places.{at-kind, at-end, Halves, halves, at-within}
 use Rattle.words.proofs.part.copy.Reads as copy-reads
 use Rattle.words.proofs.part.skip.Reads as skip-reads
 use Rattle.moves.specs.Fill.{Fillable}
 use Rattle.moves.specs.declared.fill.Filled.{Filled}
-use Rattle.moves.proofs.Cases.{at-within, atom-case, variable-case, sign-case, node-case}
+use Rattle.moves.proofs.Cases.{atom-case, variable-case, sign-case, node-case}
 use Rattle.moves.proofs.Fills.{Fills, each, Was, done-is, none-over, sign-filled, sign-over, atom-filled, node-over, node-filled}
 use Rattle.moves.proofs.fill.fill_variable.Reads as fill-variable-reads
 use Rattle.moves.proofs.fill.fill_into.Reads as fill-into

@@ -9,8 +9,7 @@ use mir.Val.{toZ}
 use mir.Facts.{toZ-pos}
 use borrow.Author.Needs.{needs}
 use Rattle.logic.specs.Term.{var}
-use Rattle.words.proofs.Places.{size-is}
-use Rattle.moves.proofs.Cases.{at-within}
+use Rattle.words.proofs.Places.{size-is, at-within}
 use Rattle.moves.proofs.Fills.{same-done, same-over, none-over, low-done, high-done}
 use Rattle.moves.proofs.fill.fill_variable.Statement.{statement}
 use Rattle.moves.proofs.fill.fill_variable.Tie as tie

@@ -17,11 +17,12 @@ use Rattle.logic.specs.Term.{Term, size}
 use Rattle.logic.proofs.Shapes.{headKind}
 use Rattle.logic.proofs.word.kind.Reads as kind-reads
 use Rattle.logic.proofs.word.payload_of.Reads as payload-of-reads
+use Rattle.logic.proofs.Words.{size-pos}
 use Rattle.words.specs.Place.{At}
-use Rattle.words.proofs.Places.{at-kind, at-end, size-pos, Halves, halves}
+use Rattle.words.proofs.Places.{at-kind, at-end, Halves, halves, at-within}
 use Rattle.words.proofs.part.skip.Reads as skip-reads
 use Rattle.moves.specs.Shift.{Shifted}
-use Rattle.moves.proofs.Cases.{at-within, variable-case, node-case}
+use Rattle.moves.proofs.Cases.{variable-case, node-case}
 use Rattle.moves.proofs.Shifts.{var-shifted, kept-shifted, second-stands, node-shifted}
 use Rattle.moves.proofs.shift.moved.Reads as moved-reads
 use Rattle.moves.proofs.shift.shift_within.Reads as shift-within

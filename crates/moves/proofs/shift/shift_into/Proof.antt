@@ -4,8 +4,7 @@ use native.Mathlib.Omega.{arith}
 use lib.ListN.{length}
 use mir.Facts.{toZ-ofZ}
 use borrow.Author.Needs.{needs}
-use Rattle.words.proofs.Places.{is-at, size-is}
-use Rattle.moves.proofs.Cases.{at-within}
+use Rattle.words.proofs.Places.{is-at, size-is, at-within}
 use Rattle.moves.proofs.Shifts.{copy-stands, copy-shifted}
 use Rattle.moves.proofs.shift.shift_into.Statement.{statement}
 use Rattle.moves.proofs.shift.shift_into.Tie as tie

@@ -9,7 +9,8 @@ use borrow.Author.Tests.{not-false}
 use borrow.Author.Needs.{needs}
 use Rattle.logic.specs.Limits.{most-type-words}
 use Rattle.logic.specs.Term.{size}
-use Rattle.words.proofs.Places.{size-pos, at-end}
+use Rattle.logic.proofs.Words.{size-pos}
+use Rattle.words.proofs.Places.{at-end}
 use Rattle.moves.specs.Occurrence.{occurrence-answer}
 use Rattle.rules.specs.Scope.{entry-head}
 use Rattle.rules.specs.Form.{front-words}

@@ -9,7 +9,8 @@ use borrow.Author.Needs.{needs}
 use Rattle.logic.specs.Infer.{proposition}
 use Rattle.logic.specs.Limits.{most-words, most-type-words}
 use Rattle.logic.specs.Term.{Term}
-use Rattle.words.proofs.Places.{at-end, size-pos}
+use Rattle.logic.proofs.Words.{size-pos}
+use Rattle.words.proofs.Places.{at-end}
 use Rattle.rules.specs.Form.{front-words}
 use Rattle.results.specs.Results.{Pairs}
 use Rattle.results.proofs.Results.{pair-unlike, pair-long, pair-done}

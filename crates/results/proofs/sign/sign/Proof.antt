@@ -8,7 +8,8 @@ use borrow.Author.Needs.{needs}
 use Rattle.logic.specs.Infer.{same}
 use Rattle.logic.specs.Limits.{most-words}
 use Rattle.logic.specs.Term.{propA, saysO, Term, P, opWord, size}
-use Rattle.words.proofs.Places.{at-end, size-pos}
+use Rattle.logic.proofs.Words.{size-pos}
+use Rattle.words.proofs.Places.{at-end}
 use Rattle.rules.specs.Form.{front-words}
 use Rattle.results.specs.Results.{Signs}
 use Rattle.results.proofs.Results.{sign-unlike, sign-long, sign-done}

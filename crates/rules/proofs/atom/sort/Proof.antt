@@ -1,6 +1,5 @@
 -- `sort` gives the type of an atom that is no constant, by the atom's tag: a return for each of five types.
 use Rattle.rules.proofs.Atoms.{sort-is}
-use borrow.Author.Needs.{needs}
 use Rattle.rules.proofs.atom.sort.Statement.{statement}
 use Rattle.rules.proofs.atom.sort.Tie as tie
 

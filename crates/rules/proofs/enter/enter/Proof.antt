@@ -2,8 +2,9 @@
 -- outcome of the test.
 use mathlib.Core.List.{List}
 use Rattle.rules.proofs.Enters.{app-passes, app-fails, bind-passes, bind-fails, bind-keeps, binder-passes, binder-fails, plain-passes, plain-fails}
-use Rattle.words.proofs.Places.{at-end, size-pos}
+use Rattle.words.proofs.Places.{at-end}
 use Rattle.logic.specs.Term.{prinA}
+use Rattle.logic.proofs.Words.{size-pos}
 use lib.ListN.{length}
 use mathlib.Core.Path.{refl, sym, _∙_}
 use Prim.Native.Nat.{ℕ, _+_, _≤_, _<_}

@@ -1,11 +1,11 @@
 -- `put_head` writes the first three words of an entry, one behind the other.
 use Prim.Native.Nat.{_+_}
 use lib.ListN.{set, length-set}
-use Rattle.rules.proofs.Kepts.{written-three}
 use native.Mathlib.Omega.{arith}
 use borrow.Author.Needs.{needs}
 use Rattle.rules.proofs.enter.put_head.Statement.{statement}
 use Rattle.rules.proofs.enter.put_head.Tie as tie
+use Rattle.words.proofs.Lists.{written-three}
 
 cast-ws : tie.Need-cast-ws
 cast-ws c = search needs

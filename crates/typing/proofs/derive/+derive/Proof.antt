@@ -13,7 +13,7 @@ use Rattle.logic.specs.Term.{Op, Term, node, size}
 use Rattle.logic.specs.Infer.{infer}
 use Rattle.logic.proofs.Searches.{depth-pos}
 use Rattle.words.specs.Place.{At}
-use Rattle.words.proofs.Places.{at-kind, at-end, at-left, size-pos}
+use Rattle.words.proofs.Places.{at-kind, at-end, at-left}
 use Rattle.logic.proofs.Shapes.{headKind}
 use Rattle.rules.specs.Rule.{within}
 use Rattle.rules.specs.Form.{level-words}
@@ -23,7 +23,7 @@ use Rattle.rules.specs.declared.derivation.Derivation.the-variants.{Refused}
 use Rattle.typing.proofs.Tails.{rest-of, whole-of, rest-length, whole-length}
 use Rattle.typing.proofs.Derives.{Derives, carried, Between, between, Inside, inside, signed-in, sign-derived, sign-refused, sign-ready}
 use Rattle.typing.proofs.Derives.{first-ready, two-deep, second-ready, level, atom-derived, variable-derived, first-refusal, test-refusal}
-use Rattle.typing.proofs.Derives.{second-refusal, formable, forms-here, node-derived, NodeAt, node-case, SignAt, sign-case}
+use Rattle.typing.proofs.Derives.{second-refusal, formable, forms-here, node-derived, NodeAt, SignAt}
 use Rattle.typing.proofs.derive.derive.Reads as derive
 use Rattle.typing.proofs.derive.derive.Kinds as kinds
 use Rattle.typing.proofs.derive.+derive.Lts-derive as lts
@@ -34,8 +34,11 @@ use Rattle.rules.proofs.scope.variable.Reads as variable-reads
 use Rattle.results.proofs.sign.sign.Reads as sign-reads
 use Rattle.logic.proofs.word.kind.Reads as kind-reads
 use Rattle.logic.proofs.word.payload_of.Reads as payload-of-reads
+use Rattle.logic.proofs.Words.{size-pos}
+use Rattle.logic.specs.Kind.{kind-node}
 use Rattle.typing.proofs.derive.+derive.{statement}
 use Rattle.typing.proofs.derive.+derive.Tie.{close}
+use Rattle.moves.proofs.Cases.{node-case, sign-case}
 
 -- the nesting left
 abbrev μ-derive : Measures 4 kinds.ps ℕ
@@ -132,15 +135,20 @@ kind-known : (t : ℕ) (c : lts.After-kind (calls t) (given t) derive.Post) (u :
     At (at-start .args .proof .now) (at-start .args .at) u → c .kind .result ≡ headKind u
 kind-known t c u h = c .kind .ensures ∙ at-kind h
 
+abbrev SignHere : (t : ℕ) (s : lts.Start (calls t) (given t) derive.Post) → Type 0
+SignHere t s =
+    SignAt (s .args .sig .now) (s .args .table .now) (s .args .proof .now) (s .args .ws .now) (s .args .floor) (s .args .used) (s .args .at)
+    (s .args .left) (s .pre .1 .Σ) (s .pre .1 .Γ)
+
 sign-at : (t : ℕ) (c : lts.Then3 (calls t) (given t) derive.Post) →
     let at-start = before-shared-slice-known t (before-kind t (before-then3 t c)) in
-    let a = at-start .args in
-    SignAt (a .sig .now) (a .table .now) (a .proof .now) (a .ws .now) (a .floor) (a .used) (a .at) (a .left) (at-start .pre .1 .Σ) (at-start .pre .1 .Γ)
+    SignHere t at-start
 sign-at t c =
     let at-kind = before-then3 t c in
     let at-start = before-shared-slice-known t (before-kind t at-kind) in
     let p = at-start .pre .1 in
-    sign-case (at-kind .kind .result) (p .term) (kind-known t at-kind (p .term) (p .ready .here)) (c .if3 .taken) (p .ready)
+    sign-case (λ u. Here t at-start (p .Σ) (p .Γ) u → SignHere t at-start) (kind-known t at-kind) (c .if3 .taken)
+    (λ n q h R. record { n = n; q = q; ready-sign = R }) (p .term) (p .ready .here) (p .ready)
 
 -- a node, of any term that stands there
 as-node : (t : ℕ) (c : lts.Else3 (calls t) (given t) derive.Post) (Σ Γ : List Term) (u : Term) (F : Term → Type 0) →
@@ -149,8 +157,8 @@ as-node : (t : ℕ) (c : lts.Else3 (calls t) (given t) derive.Post) (Σ Γ : Lis
 as-node t c Σ Γ u F R f =
     let at-kind = before-else3 t c in
     let at-start = before-shared-slice-known t (before-kind t at-kind) in
-    node-case (λ u. Here t at-start Σ Γ u → F u) u (at-kind .kind .result) (kind-known t at-kind u (R .here)) (c .before .before .if1 .left)
-    (c .before .if2 .left) (c .if3 .left) f R
+    let k : kind-node ≤ at-kind .kind .result = omega (arith, c .before .before .if1 .left, c .before .if2 .left, c .if3 .left) in
+    node-case (λ u. Here t at-start Σ Γ u → F u) (kind-known t at-kind) k (λ o a b e h. f o a b) u (R .here) R
 
 abbrev NodeHere : (t : ℕ) (s : lts.Start (calls t) (given t) derive.Post) → Type 0
 NodeHere t s =
