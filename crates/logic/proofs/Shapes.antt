@@ -2,13 +2,12 @@
 use Prim.Native.Nat.{ℕ, zero, suc, _*_, _/_, _%_, _^_, _≤_, _<_}
 use native.Mathlib.Omega.{arith}
 use mathlib.Core.Path.{_≡_, refl, sym, ap, ap₂, _∙_}
-use mathlib.Core.Bool.{Bool, true, false}
+use mathlib.Core.Bool.{Bool, true, false, cond}
 use lib.Dec.{eqb}
 use borrow.Author.Tests.{eqb-true, eqb-false, ne-eqb}
 use Rattle.logic.specs.Limits.{payloads}
 use Rattle.logic.specs.Tags.{tag-prop, tag-type, tag-string, tag-prin, tag-variable, tag-constant, tag-says, tag-pi, tag-lam, tag-app}
 use Rattle.logic.specs.Tags.{tag-text, tag-name, tag-sign, tag-ret, tag-bind, tag-kindP, tag-kindT}
-use Rattle.logic.specs.Result.{pick}
 use Rattle.logic.specs.Term.{propA, typeA, stringA, prinA, kindPA, kindTA, constA, textA, nameA, Op, saysO, piO, lamO, appO, retO, bindO}
 use Rattle.logic.specs.Term.{binds, Term, atom, var, sign, node, word, tag-of, payload-of}
 use Rattle.logic.specs.Reading.{Shape, leaf, signed, branch, no-term, shape-of-tag, shape, Plain}
@@ -103,20 +102,20 @@ head-kind t p = ap kindOf (shape-first t p)
 pub op-low : (o : Op) → kind-node ≤ opKind o
 op-low o = go (binds o)
   where
-    go : (b : Bool) → kind-node ≤ pick b kind-binder kind-node
+    go : (b : Bool) → kind-node ≤ cond b kind-binder kind-node
     go true = omega arith
     go false = omega arith
 
 pub op-high : (o : Op) → opKind o ≤ kind-binder
 op-high o = go (binds o)
   where
-    go : (b : Bool) → pick b kind-binder kind-node ≤ kind-binder
+    go : (b : Bool) → cond b kind-binder kind-node ≤ kind-binder
     go true = omega arith
     go false = omega arith
 
 -- ---- whether it binds
 
-op-binds : (b : Bool) → eqb (pick b kind-binder kind-node) kind-binder ≡ b
+op-binds : (b : Bool) → eqb (cond b kind-binder kind-node) kind-binder ≡ b
 op-binds true = refl
 op-binds false = refl
 

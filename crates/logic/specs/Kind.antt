@@ -1,7 +1,6 @@
 -- What a word begins, as a number, and how many children it has.
 use Prim.Native.Nat.{ℕ}
-use mathlib.Core.Bool.{Bool, false}
-use Rattle.logic.specs.Result.{pick}
+use mathlib.Core.Bool.{Bool, false, cond}
 use Rattle.logic.specs.Term.{Op, Term, atom, var, sign, node, binds}
 use Rattle.logic.specs.Reading.{Shape, leaf, signed, branch, no-term}
 
@@ -32,7 +31,7 @@ leafKind (sign n q) = kind-atom
 leafKind (node o a b) = kind-atom
 
 abbrev pub opKind : Op → ℕ
-opKind o = pick (binds o) kind-binder kind-node
+opKind o = cond (binds o) kind-binder kind-node
 
 abbrev pub kindOf : Shape → ℕ
 kindOf (leaf t) = leafKind t

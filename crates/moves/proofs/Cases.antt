@@ -3,10 +3,9 @@
 use Prim.Native.Nat.{ℕ, _≤_}
 use native.Mathlib.Omega.{arith}
 use mathlib.Core.Path.{_≡_, refl}
-use mathlib.Core.Bool.{Bool, true, false}
+use mathlib.Core.Bool.{Bool, true, false, cond}
 use mathlib.Core.List.{List}
 use mathlib.Core.Option.{some, none}
-use Rattle.logic.specs.Result.{pick}
 use Rattle.logic.specs.Term.{Atom, Op, Term, atom, var, sign, node}
 use Rattle.logic.specs.Kind.{kind-atom, kind-variable, kind-sign, kind-node, opKind}
 use Rattle.logic.proofs.Basics.{clash, some-inj}
@@ -38,10 +37,10 @@ module _ (P : Term → Type 0) {ws : List ℕ} {at k : ℕ} (found : (t : Term) 
 
 -- ---- answers
 
-pub given : {X : Type 0} (b : Bool) (x : X) {y : X} → some y ≡ pick b (some x) none → (b ≡ true) × (y ≡ x)
+pub given : {X : Type 0} (b : Bool) (x : X) {y : X} → some y ≡ cond b (some x) none → (b ≡ true) × (y ≡ x)
 given true x e = (refl, some-inj e)
 given false x e = absurd (clash (cc))
 
-pub not-given : {X : Type 0} (b : Bool) (x : X) → none ≡ pick b (some x) none → b ≡ false
+pub not-given : {X : Type 0} (b : Bool) (x : X) → none ≡ cond b (some x) none → b ≡ false
 not-given true x e = absurd (clash (cc))
 not-given false x e = refl

@@ -2,7 +2,7 @@
 use Prim.Native.Nat.{ℕ, suc, _+_, _-_, _≤_, _<_}
 use native.Mathlib.Omega.{arith}
 use mathlib.Core.Path.{_≡_, refl, sym, ap, ap₂, subst, _∙_}
-use mathlib.Core.Bool.{Bool}
+use mathlib.Core.Bool.{Bool, cond}
 use mathlib.Core.List.{List, [], _∷_}
 use mathlib.Core.Option.{Option, some, none}
 use lib.ListN.{length, take, drop, set, getD, length-set}
@@ -10,7 +10,6 @@ use lib.Dec.{leb}
 use lib.IntN.{ℤ, pos}
 use borrow.Author.Tests.{le-leb, lt-leb, leb-true, leb-false}
 use Rattle.logic.specs.Tags.{tag-variable}
-use Rattle.logic.specs.Result.{pick}
 use Rattle.logic.specs.Term.{Atom, Op, Term, atom, var, sign, node, payload-of, word, opWord, encode, size, binds, under}
 use Rattle.logic.specs.Move.{shift, raise, fillAt}
 use Rattle.logic.specs.Kind.{kind-node, opKind}
@@ -39,7 +38,7 @@ each f t e h i = f e i t h
 
 -- the values of an answer, where there is room up to the end
 abbrev within : Bool → (next end : ℕ) → Option (ℕ × ℕ)
-within b next end = pick b (some (next, end)) none
+within b next end = cond b (some (next, end)) none
 
 module _ (t u : Term) (at : ℕ) (old : List ℕ) (to : ℕ) (new : List ℕ) where
   done : (next end : ℕ) → next ≡ at + size t → end ≡ to + size u → end ≤ length old → new ≡ written old to (encode u)

@@ -2,13 +2,13 @@
 use Prim.Native.Nat.{ℕ, suc, _+_, _-_, _≤_, _<_}
 use native.Mathlib.Omega.{arith}
 use mathlib.Core.Path.{_≡_, refl, sym, ap, ap₂, subst, _∙_}
+use mathlib.Core.Bool.{cond}
 use mathlib.Core.List.{List, [], _∷_}
 use lib.ListN.{length, take, drop, set, getD}
 use lib.Seq.{set-getD, take-length}
 use lib.Dec.{ltb}
 use lib.IntN.{ℤ}
 use Rattle.logic.specs.Tags.{tag-variable}
-use Rattle.logic.specs.Result.{pick}
 use Rattle.logic.specs.Term.{Op, Term, atom, var, sign, node, payload-of, word, opWord, encode, size, binds, under}
 use Rattle.logic.specs.Move.{moved, shift}
 use Rattle.logic.specs.Kind.{kind-variable, kind-node, opKind}
@@ -56,13 +56,13 @@ module _ (ws : List ℕ) (at c : ℕ) (z : ℤ) where
   }
 
   -- z′ is the amount as it is read back from its bits
-  pub var-shifted : {z′ : ℤ} (p : ℕ) {r : ℕ} → z′ ≡ z → at < length ws → p ≡ payload-of (getD ws at 0) → r ≡ pick (ltb p c) p (moved z′ p)
+  pub var-shifted : {z′ : ℤ} (p : ℕ) {r : ℕ} → z′ ≡ z → at < length ws → p ≡ payload-of (getD ws at 0) → r ≡ cond (ltb p c) p (moved z′ p)
       → (n : ℕ) → At ws at (var n) → Shifted (var n) c z ws at (set ws at (word tag-variable r)) 1
   unfolding size shift encode
   var-shifted p i l j f n h = record {
     count = refl;
     words = written-set ws at _ l
-        ∙ ap (λ (v : ℕ). written ws at (word tag-variable v ∷ [])) (f ∙ ap₂ (λ (y : ℤ) (m : ℕ). pick (ltb m c) m (moved y m)) i (j ∙ payload ws at n h));
+        ∙ ap (λ (v : ℕ). written ws at (word tag-variable v ∷ [])) (f ∙ ap₂ (λ (y : ℤ) (m : ℕ). cond (ltb m c) m (moved y m)) i (j ∙ payload ws at n h));
   }
 
   pub node-shifted : {mid new : List ℕ} {z′ : ℤ} (k : ℕ) {ra rb : ℕ} → z′ ≡ z → at < length ws

@@ -1,12 +1,12 @@
 -- What the code that fills a term is asked and what it ensures.
 use Prim.Native.Nat.{ℕ, _+_, _≤_}
 use mathlib.Core.Path.{_≡_}
+use mathlib.Core.Bool.{cond}
 use mathlib.Core.List.{List}
 use mathlib.Core.Option.{Option, some, none}
 use lib.ListN.{length}
 use lib.Dec.{leb}
 use Rattle.logic.specs.Limits.{payloads}
-use Rattle.logic.specs.Result.{pick}
 use Rattle.logic.specs.Term.{Term, encode, size}
 use Rattle.words.specs.Place.{At, Is, written}
 use Rattle.moves.specs.declared.fill.Filled.{Filled}
@@ -28,5 +28,5 @@ filled-answer Over = none
 
 -- of t, which stands at a place, u is written from the place to on, if there is room
 pub record FilledTo (t u : Term) (at : ℕ) (old : List ℕ) (to : ℕ) (new : List ℕ) (r : Filled) : Type 0 where
-  pub answer : filled-answer r ≡ pick (leb (to + size u) (length old)) (some (at + size t, to + size u)) none
+  pub answer : filled-answer r ≡ cond (leb (to + size u) (length old)) (some (at + size t, to + size u)) none
   pub words : to + size u ≤ length old → new ≡ written old to (encode u)

@@ -1,10 +1,10 @@
 -- Whether a variable occurs.
 use Prim.Native.Nat.{ℕ, _+_, _≤_}
+use mathlib.Core.Bool.{cond}
 use mathlib.Core.List.{List}
 use mathlib.Core.Option.{Option, some, none}
 use lib.Dec.{eqb}
 use Rattle.logic.specs.Limits.{payloads}
-use Rattle.logic.specs.Result.{pick}
 use Rattle.logic.specs.Term.{Term, size}
 use Rattle.words.specs.Place.{At}
 use Rattle.moves.specs.declared.occurrence.Occurrence.{Occurrence}
@@ -23,4 +23,4 @@ occurrence-answer Present = none
 
 -- where a term ends, in which the variable stands free n times, if that is never
 abbrev pub absent : ℕ → ℕ → Option ℕ
-absent end n = pick (eqb n 0) (some end) none
+absent end n = cond (eqb n 0) (some end) none

@@ -8,12 +8,12 @@ use words::part::copy;
 use words::part::skip;
 ghost use mathlib.Core.Path.{_≡_};
 ghost use Prim.Native.Nat.{_+_, _-_, _≤_, _<_};
+ghost use mathlib.Core.Bool.{cond};
 ghost use lib.ListN.{length};
 ghost use lib.IntN.{natAbs};
 ghost use lib.Dec.{ltb};
 ghost use Rattle.logic.specs.Limits.{payloads};
 ghost use Rattle.logic.specs.Term.{Term};
-ghost use Rattle.logic.specs.Result.{pick};
 ghost use Rattle.logic.specs.Move.{moved as movedBy};
 ghost use Rattle.words.specs.Place.{At, Is};
 ghost use Rattle.moves.specs.Shift.{Shiftable, ShiftableWhole, Shifted};
@@ -22,7 +22,7 @@ ghost use Rattle.moves.specs.Shift.{Shiftable, ShiftableWhole, Shifted};
 // the amount are added as i32, and both casts are lossless.
 fn moved(n: u32, c: u32, amount: i32) -> u32
     requires { ⌜ (n < payloads) × (natAbs amount ≤ payloads) ⌝ }
-    ensures { λ r. ⌜ (r ≡ pick (ltb n c) n (movedBy amount n)) × (r ≤ payloads + payloads) ⌝ }
+    ensures { λ r. ⌜ (r ≡ cond (ltb n c) n (movedBy amount n)) × (r ≤ payloads + payloads) ⌝ }
 {
     if n < c {
         return n;

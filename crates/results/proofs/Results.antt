@@ -4,7 +4,7 @@ use native.Mathlib.Nat.{add-zero}
 use native.Mathlib.Omega.{arith}
 use mathlib.Core.Path.{_≡_, refl, sym, ap, ap₂, subst, _∙_}
 use mathlib.Core.Logic.{inl, inr}
-use mathlib.Core.Bool.{Bool, true, false, not}
+use mathlib.Core.Bool.{Bool, true, false, not, cond}
 use mathlib.Core.List.{List, _∷_, _++_, append-assoc, tail-eq-of-cons-eq}
 use mathlib.Core.Option.{Option, some, none}
 use lib.Dec.{ltb, eqb}
@@ -14,7 +14,7 @@ use lib.ListN.{length, take, drop, set, getD, take-append-drop, length-append, l
 use borrow.Author.Tests.{not-true, not-false, eq-eqb}
 use Rattle.logic.specs.Limits.{payloads, most-type-words}
 use Rattle.logic.specs.Refusals.{condition-fails, type-too-long, argument-mismatch, variable-escapes}
-use Rattle.logic.specs.Result.{Result, refused, _>>_, require, pick}
+use Rattle.logic.specs.Result.{Result, refused, _>>_, require}
 use Rattle.logic.specs.Tags.{tag-name, tag-sign}
 use Rattle.logic.specs.Term.{Op, saysO, piO, lamO, appO, retO, bindO, Term, atom, var, sign, node, binds, under, P, KindP, KindT, Name, Says, word}
 use Rattle.logic.specs.Term.{payload-of, opWord, encode, size}
@@ -216,7 +216,7 @@ unfolding Plain shift
 plain-lower c (atom a) p = p
 plain-lower c (var n) p = go (ltb n c)
   where
-    go : (b : Bool) → pick b n (n - 1) < payloads
+    go : (b : Bool) → cond b n (n - 1) < payloads
     go true = p
     go false = omega arith
 plain-lower c (sign n q) p = p

@@ -3,6 +3,7 @@ use Prim.Native.Nat.{ℕ, zero, suc, _+_, _-_, _≤_, _<_}
 use native.Mathlib.Nat.{le-of-suc-le-suc}
 use native.Mathlib.Omega.{arith}
 use mathlib.Core.Path.{_≡_, refl, sym, ap, subst, _∙_}
+use mathlib.Core.Bool.{cond}
 use mathlib.Core.Logic.{inl, inr}
 use mathlib.Core.List.{List, [], _∷_}
 use mathlib.Core.Option.{Option, some, none}
@@ -11,7 +12,7 @@ use lib.ListN.{length, take, drop, set, getD, getElem?}
 use Rattle.logic.specs.Limits.{most-type-words}
 use Rattle.logic.specs.Refusals.{unknown-constant, type-too-long}
 use Rattle.logic.specs.Tags.{tag-prop, tag-type, tag-string, tag-prin, tag-constant, tag-text, tag-name, tag-kindP, tag-kindT}
-use Rattle.logic.specs.Result.{Result, ok, _>>=_, known, pick}
+use Rattle.logic.specs.Result.{Result, ok, _>>=_, known}
 use Rattle.logic.specs.Term.{Atom, propA, typeA, stringA, prinA, kindPA, kindTA, constA, textA, nameA, Term, atom, atomWord, word, tag-of}
 use Rattle.logic.specs.Term.{payload-of, encode, size}
 use Rattle.logic.specs.Reading.{Plain, PlainAtom, PlainType}
@@ -33,8 +34,8 @@ use Rattle.rules.proofs.Fronts.{measured-fits, measured-long, refuses, 
 -- the word of the type, by the code's tests
 abbrev pub sort-by : ℕ → ℕ
 sort-by tag =
-    pick (eqb tag tag-prop) (word tag-kindP 0) (pick (eqb tag tag-type) (word tag-kindT 0)
-    (pick (eqb tag tag-text) (word tag-string 0) (pick (eqb tag tag-name) (word tag-prin 0) (word tag-type 0))))
+    cond (eqb tag tag-prop) (word tag-kindP 0) (cond (eqb tag tag-type) (word tag-kindT 0)
+    (cond (eqb tag tag-text) (word tag-string 0) (cond (eqb tag tag-name) (word tag-prin 0) (word tag-type 0))))
 
 sort-right : (a b : Atom) → PlainAtom a → sort-of a ≡ some b → sort-by (tag-of (atomWord a)) ≡ atomWord b
 sort-right propA b p e = ap atomWord (some-inj e)

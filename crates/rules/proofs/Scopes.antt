@@ -3,14 +3,13 @@ use Prim.Native.Nat.{ℕ, _+_, _-_, _≤_, _<_}
 use native.Mathlib.Nat.{add-zero}
 use native.Mathlib.Omega.{arith}
 use mathlib.Core.Path.{_≡_, refl, sym, ap, ap₂, subst, _∙_}
-use mathlib.Core.Bool.{Bool, true}
+use mathlib.Core.Bool.{Bool, true, cond}
 use mathlib.Core.List.{List, [], _∷_, _++_}
 use mathlib.Core.Option.{some}
 use lib.ListN.{length, take, drop, getD, getElem?, length-append, length-drop}
 use lib.Seq.{drop-drop, drop-nil, drop-at, drop-append-add, getD-drop, getD-take, length-take-le}
 use lib.Dec.{ltb}
 use borrow.Author.Tests.{lt-ltb}
-use Rattle.logic.specs.Result.{pick}
 use Rattle.logic.specs.Term.{Term, encode, size}
 use Rattle.logic.proofs.Basics.{clash}
 use Rattle.logic.proofs.Words.{encode-size}
@@ -48,7 +47,7 @@ pub record Nearest (proof h : List ℕ) (Γ : List Term) (total start words : �
   pub inside : total ≤ length h
   pub others : Binders proof (drop total h) (drop 1 Γ)
   pub within : ltb entry-head total ≡ true → words ≤ total
-  pub here : At (pick (ltb entry-head total) h proof) (pick (ltb entry-head total) (total - words) start) type
+  pub here : At (cond (ltb entry-head total) h proof) (cond (ltb entry-head total) (total - words) start) type
 
 nearest : (proof h : List ℕ) (Γ : List Term) → 0 < length h → Binders proof h Γ → Nearest proof h Γ (getD h 0 0) (getD h 1 0) (getD h 2 0)
 nearest proof h Γ l no-binder = absurd (omega arith)
@@ -82,7 +81,7 @@ nearest proof h Γ l (in-workspace {h = g} {Γ = Δ} {A} {s} x p one b) =
       inside = omega arith;
       others = subst (λ (y : List ℕ). Binders proof y Δ) (sym a) b;
       within = λ _. omega arith;
-      here = subst (λ (f : Bool). At (pick f e proof) (pick f (entry-head + k - size A) s) A) (sym t) (record { plain = p; rest = g; words = w });
+      here = subst (λ (f : Bool). At (cond f e proof) (cond f (entry-head + k - size A) s) A) (sym t) (record { plain = p; rest = g; words = w });
     }
 
 -- the entry's first words are read from the workspace

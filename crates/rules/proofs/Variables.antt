@@ -2,7 +2,7 @@
 use Prim.Native.Nat.{ℕ, zero, suc, _+_, _-_, _^_, _≤_, _<_}
 use native.Mathlib.Omega.{arith}
 use mathlib.Core.Path.{_≡_, refl, sym, ap, subst, _∙_}
-use mathlib.Core.Bool.{Bool, true, false}
+use mathlib.Core.Bool.{Bool, true, false, cond}
 use mathlib.Core.List.{List, [], _∷_, _++_, append-assoc}
 use mathlib.Core.Option.{Option, some, none}
 use lib.ListN.{length, take, drop, getD, getElem?, take-append-drop}
@@ -14,7 +14,7 @@ use mir.Val.{SFits, toZ, ofZ}
 use mir.Facts.{toZ-ofZ, toZ-pos}
 use Rattle.logic.specs.Limits.{payloads, most-type-words}
 use Rattle.logic.specs.Refusals.{unbound-variable, type-too-long}
-use Rattle.logic.specs.Result.{Result, ok, _>>=_, known, pick}
+use Rattle.logic.specs.Result.{Result, ok, _>>=_, known}
 use Rattle.logic.specs.Term.{Term, encode, size}
 use Rattle.logic.specs.Move.{shift, raise}
 use Rattle.logic.specs.Reading.{PlainType}
@@ -41,15 +41,15 @@ first-of-rest [] (suc n) = refl
 first-of-rest (A ∷ Γ) zero = refl
 first-of-rest (A ∷ Γ) (suc n) = first-of-rest Γ n
 
-pub picked-true : (b : Bool) (x y : ℕ) {r : ℕ} → b ≡ true → r ≡ x → r ≡ pick b x y
-picked-true b x y e q = q ∙ ap (λ (b : Bool). pick b x y) (sym e)
+pub cond-true : (b : Bool) (x y : ℕ) {r : ℕ} → b ≡ true → r ≡ x → r ≡ cond b x y
+cond-true b x y e q = q ∙ ap (λ (b : Bool). cond b x y) (sym e)
 
-pub picked-false : (b : Bool) (x y : ℕ) {r : ℕ} → b ≡ false → r ≡ y → r ≡ pick b x y
-picked-false b x y e q = q ∙ ap (λ (b : Bool). pick b x y) (sym e)
+pub cond-false : (b : Bool) (x y : ℕ) {r : ℕ} → b ≡ false → r ≡ y → r ≡ cond b x y
+cond-false b x y e q = q ∙ ap (λ (b : Bool). cond b x y) (sym e)
 
-pub picked-length : (b : Bool) (x y : List ℕ) → length (pick b x y) ≤ length x + length y
-picked-length true x y = omega arith
-picked-length false x y = omega arith
+pub cond-length : (b : Bool) (x y : List ℕ) → length (cond b x y) ≤ length x + length y
+cond-length true x y = omega arith
+cond-length false x y = omega arith
 
 -- a term that stands in a part of a list stands in the list
 at-inside : (ws : List ℕ) (m k i : ℕ) (t : Term) → At (take k (drop m ws)) i t → At ws (m + i) t
@@ -72,13 +72,13 @@ pub record Entry (proof ws : List ℕ) (kept n : ℕ) (Γ : List Term) : Type 0 
   pub head : entry-head ≤ getD ws (length ws - kept) 0
   pub inside : getD ws (length ws - kept) 0 ≤ kept
   pub within : ltb entry-head (getD ws (length ws - kept) 0) ≡ true → getD ws (length ws - kept + 2) 0 ≤ getD ws (length ws - kept) 0
-  pub here : At (pick (ltb entry-head (getD ws (length ws - kept) 0)) ws proof)
-      (pick (ltb entry-head (getD ws (length ws - kept) 0)) (length ws - kept + (getD ws (length ws - kept) 0 - getD ws (length ws - kept + 2) 0))
+  pub here : At (cond (ltb entry-head (getD ws (length ws - kept) 0)) ws proof)
+      (cond (ltb entry-head (getD ws (length ws - kept) 0)) (length ws - kept + (getD ws (length ws - kept) 0 - getD ws (length ws - kept + 2) 0))
       (getD ws (length ws - kept + 1) 0)) type
 
 -- where the words of the scope stand
-in-scope : (b : Bool) (proof ws : List ℕ) (floor kept i start : ℕ) (A : Term) → At (pick b (scope-words floor kept ws) proof) (pick b i start) A
-    → At (pick b ws proof) (pick b (length ws - kept + i) start) A
+in-scope : (b : Bool) (proof ws : List ℕ) (floor kept i start : ℕ) (A : Term) → At (cond b (scope-words floor kept ws) proof) (cond b i start) A
+    → At (cond b ws proof) (cond b (length ws - kept + i) start) A
 in-scope true proof ws floor kept i start A h = at-inside ws (length ws - kept) (kept - floor) i A h
 in-scope false proof ws floor kept i start A h = h
 
@@ -127,12 +127,12 @@ module _ {proof ws : List ℕ} {kept n : ℕ} {Γ : List Term} (at : ℕ) (e : E
       refuses (variable-type Γ at n) type-too-long at (at + 1) ws (variable-is ∙ measured-long at (raise (suc n) (e .type)) (omega arith))
 
   -- what is looked up is the type's words
-  pub looked-up : {from : ℕ} {part : List ℕ} → from ≡ pick (ltb entry-head (getD ws (length ws - kept) 0))
+  pub looked-up : {from : ℕ} {part : List ℕ} → from ≡ cond (ltb entry-head (getD ws (length ws - kept) 0))
       (length ws - kept + (getD ws (length ws - kept) 0 - getD ws (length ws - kept + 2) 0)) (getD ws (length ws - kept + 1) 0)
       → part ≡ partOf proof ws (ltb entry-head (getD ws (length ws - kept) 0)) from (from + getD ws (length ws - kept + 2) 0) → Is part (e .type)
   looked-up {from} {part} f p =
       let b : Bool = ltb entry-head (getD ws (length ws - kept) 0) in
-      let h : At (pick b ws proof) from (e .type) = subst (λ (i : ℕ). At (pick b ws proof) i (e .type)) (sym f) (e .here) in
+      let h : At (cond b ws proof) from (e .type) = subst (λ (i : ℕ). At (cond b ws proof) i (e .type)) (sym f) (e .here) in
       subst (λ (x : List ℕ). Is x (e .type)) (sym p) (record
       { plain = h .plain; words = part-is (from + getD ws (length ws - kept + 2) 0) h (ap (λ (k : ℕ). from + k) (e .type-words)) })
 

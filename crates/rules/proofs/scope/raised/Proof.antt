@@ -13,7 +13,7 @@ use Rattle.logic.specs.Term.{Term, size}
 use Rattle.words.specs.Place.{Is}
 use Rattle.words.specs.Lookup.{partOf}
 use Rattle.words.proofs.Places.{size-is}
-use Rattle.rules.proofs.Variables.{amount-fits, amount-is, amount-near, picked-length, raised-front}
+use Rattle.rules.proofs.Variables.{amount-fits, amount-is, amount-near, cond-length, raised-front}
 use Rattle.rules.proofs.scope.raised.Statement.{statement}
 use Rattle.rules.proofs.scope.raised.Tie as tie
 
@@ -55,7 +55,7 @@ short s A i =
 add-lookup : tie.Need-add-lookup
 add-lookup c =
     let s = c .before .before .before .before in
-    let l = picked-length (s .args .in-workspace) (s .args .ws .now) (s .args .proof .now) in
+    let l = cond-length (s .args .in-workspace) (s .args .ws .now) (s .args .proof .now) in
     omega (arith, s .good, s .pre .inside .1)
 
 lookup-requires : tie.Need-lookup-requires

@@ -1,13 +1,13 @@
 -- `variable` gives a variable's type: no binder has its number, or the type is too long, or it is raised to where the
 -- variable stands, by way of the small buffer or the large one.
-use Rattle.rules.proofs.Variables.{picked-true, picked-false, Entry, entry-of, variable-unbound, variable-long, looked-up, variable-found}
+use mathlib.Core.Bool.{cond}
+use Rattle.rules.proofs.Variables.{cond-true, cond-false, Entry, entry-of, variable-unbound, variable-long, looked-up, variable-found}
 use Rattle.rules.specs.Scope.{scope-words, entry-head, Binders}
 use Rattle.rules.specs.Variable.{Raisable}
 use Rattle.words.specs.Lookup.{partOf}
 use Rattle.words.proofs.Places.{at-end}
 use Rattle.words.specs.Place.{Is}
 use Rattle.logic.specs.Term.{Term}
-use Rattle.logic.specs.Result.{pick}
 use lib.Dec.{ltb}
 use lib.ListN.{length, getD}
 use mathlib.Core.List.{List}
@@ -60,11 +60,11 @@ from-is : (c : tie.Joined3) →
     let at-binder = before-else1 (before-else2 (before-joined3 c)) in
     let at-start = before-binder at-binder in
     let a = at-start .args in
-    c .if3 .from ≡ pick (ltb entry-head (getD (a .ws .now) (length (a .ws .now) - at-binder .binder .result) 0))
+    c .if3 .from ≡ cond (ltb entry-head (getD (a .ws .now) (length (a .ws .now) - at-binder .binder .result) 0))
     (length (a .ws .now) - at-binder .binder .result +
     (getD (a .ws .now) (length (a .ws .now) - at-binder .binder .result) 0 - getD (a .ws .now) (length (a .ws .now) - at-binder .binder .result + 2)
     0)) (getD (a .ws .now) (length (a .ws .now) - at-binder .binder .result + 1) 0)
-from-is c = ⊎-elim (λ w. picked-true _ _ _ (w .0 .taken) (w .1)) (λ w. picked-false _ _ _ (w .0 .left) (w .1)) (c .if3 .came)
+from-is c = ⊎-elim (λ w. cond-true _ _ _ (w .0 .taken) (w .1)) (λ w. cond-false _ _ _ (w .0 .left) (w .1)) (c .if3 .came)
 
 -- the part that is looked up is the type's words
 part : (c : tie.Joined3) (Γ : List Term) →
