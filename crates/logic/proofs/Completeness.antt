@@ -13,7 +13,7 @@ use Rattle.logic.specs.Scope.{Signature, Context, no-binder, binder}
 use Rattle.logic.specs.Infer.{measured, infer}
 use Rattle.logic.specs.Measured.{Measured}
 use Rattle.logic.proofs.Results.{bind-is, pass}
-use Rattle.logic.proofs.Regularity.{said, stratify}
+use Rattle.logic.proofs.Regularity.{said-types, stratify}
 use Rattle.logic.proofs.Proposition.{same-yes, passes}
 use Rattle.logic.proofs.Conditions.{measured-small, domain-is, body-is}
 use Rattle.logic.proofs.Soundness.{sound}
@@ -47,7 +47,7 @@ module _ (Σ : List Term) (sig : Signature Σ) where
       (bind-is _ (complete _ c e m.1) (pass _ _ (passes q) (measured-small at m.2))))
   complete at c (has-bind e b o) m =
       bind-is _ (complete _ c e m.0)
-      (bind-is _ (complete _ (binder c (said Σ sig (stratify Σ sig c e) .1) of-prop) b m.1)
+      (bind-is _ (complete _ (binder c (said-types Σ sig (stratify Σ sig c e) .1) of-prop) b m.1)
       (pass _ _ (same-yes refl) (pass _ _ (eq-eqb _ 0 o) (measured-small at m.2))))
 
   -- the check gives A exactly if a measured derivation does

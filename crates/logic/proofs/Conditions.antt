@@ -11,15 +11,15 @@ use Rattle.logic.specs.Result.{Result, ok, _>>_, require}
 use Rattle.logic.specs.Term.{Op-discrete, Op, Term, atom, var, sign, node, P, T′, KindP, size}
 use Rattle.logic.specs.Typing.{DomainSort, of-type, of-prop, of-kind, BodySort, body-prop, body-kind}
 use Rattle.logic.specs.Infer.{same-term, same, measured, domain, body, Parts, parts}
-use Rattle.logic.specs.Measured.{Small}
+use Rattle.logic.specs.Measured.{TypeSmall}
 use Rattle.logic.proofs.Basics.{clash, some-inj}
 use Rattle.logic.proofs.Results.{ok-inj, tested, pass, or-cases}
 use Rattle.logic.proofs.Proposition.{same-true}
 
-pub measured-ok : {A B : Term} (at : ℕ) → measured at A ≡ ok B → Small A × (A ≡ B)
+pub measured-ok : {A B : Term} (at : ℕ) → measured at A ≡ ok B → TypeSmall A × (A ≡ B)
 measured-ok {A} at e = tested (leb (size A) most-type-words) _ at (ok A) e λ s f. (leb-true (size A) most-type-words s, ok-inj f)
 
-pub measured-small : {A : Term} (at : ℕ) → Small A → measured at A ≡ ok A
+pub measured-small : {A : Term} (at : ℕ) → TypeSmall A → measured at A ≡ ok A
 measured-small {A} at s = pass _ at (le-leb (size A) most-type-words s) refl
 
 pub parts-some : (o : Op) (t : Term) {p : Parts} → parts o t ≡ some p → t ≡ node o (p .left) (p .right)

@@ -2,13 +2,13 @@
 use mathlib.Core.Path.{refl}
 use native.Mathlib.Decide.{ℕ-discrete}
 use Rattle.logic.specs.Term.{size, encode}
-use Rattle.logic.specs.Move.{shift, fillAt, occurs}
+use Rattle.logic.specs.Move.{shift, fill-at, occurs}
 use Rattle.logic.specs.Reading.{read, too-deep}
 use Rattle.logic.specs.Infer.{infer, same-term, conclusion}
 use Rattle.logic.specs.Sentences.{Sentences}
 
 pub sentences : Sentences
-unfolding infer same-term conclusion read too-deep shift fillAt occurs size encode ℕ-discrete
+unfolding infer same-term conclusion read too-deep shift fill-at occurs size encode ℕ-discrete
 sentences = record {
   prop = refl;
   type = refl;

@@ -7,17 +7,17 @@ use native.Mathlib.Decide.{ℕ-discrete}
 use native.Mathlib.Omega.{arith}
 use Rattle.logic.specs.Result.{refused}
 use Rattle.logic.specs.Term.{Term, size, encode}
-use Rattle.logic.specs.Move.{shift, fillAt, occurs}
+use Rattle.logic.specs.Move.{shift, fill-at, occurs}
 use Rattle.logic.specs.Scope.{Signature, Context}
 use Rattle.logic.specs.Faults.{Faults, unbound, long-var, unknown, long-const, in-signed, bad-signed, long-sign, in-sayer, bad-sayer, in-said, bad-said}
 use Rattle.logic.specs.Faults.{in-pi-domain, bad-pi-domain, in-pi-body, bad-pi-body, in-lam-domain, bad-lam-domain, in-lam-body, bad-lam-body}
-use Rattle.logic.specs.Faults.{long-lam, in-function, bad-function, in-argument, bad-argument, long-app, in-ret-principal, bad-ret-principal}
+use Rattle.logic.specs.Faults.{long-lam, in-function, function-not-pi, in-argument, argument-not-domain, long-app, in-ret-principal, bad-ret-principal}
 use Rattle.logic.specs.Faults.{in-ret-proof, bad-ret-proof, long-ret, in-bound, bad-bound, in-rest, bad-rest, escapes, long-bind}
 use Rattle.logic.specs.Infer.{infer, same-term, conclusion}
 use Rattle.logic.specs.Reading.{Plain, read, too-deep}
 use Rattle.logic.specs.SignatureList.{constants}
-use Rattle.logic.specs.SeparateRefusals.{Separate, function, argument, escape, Subterm, whole, in-sign, in-first, in-says, in-pi, in-lam}
-use Rattle.logic.specs.SeparateRefusals.{in-app, in-ret, in-bind, SeparateAt, SeparateRefusals, SeparateExamples}
+use Rattle.logic.specs.SeparateRefusals.{Separate, separate-function, separate-argument, separate-escape, Subterm, itself, under-sign, under-first, under-says, under-pi, under-lam}
+use Rattle.logic.specs.SeparateRefusals.{under-app, under-ret, under-bind, SeparateAt, SeparateRefusals, SeparateExamples}
 use Rattle.logic.proofs.Completeness.{infer-right}
 use Rattle.logic.proofs.Faults.{refuses, infer-refused}
 
@@ -33,51 +33,51 @@ module _ (Σ : List Term) where
   deeper f (inr (Δ, s, u, b)) = inr (Δ, s, f Δ s u, b)
 
   here : {Γ : List Term} {t : Term} {m : ℕ} → Separate Σ Γ t m → Stands Σ Γ t m 0
-  here {Γ} {t} b = inr (Γ, t, whole, b)
+  here {Γ} {t} b = inr (Γ, t, itself, b)
 
   stands : {Γ : List Term} {t : Term} {m i : ℕ} → Faults Σ Γ t m i → Stands Σ Γ t m i
   stands (unbound _) = inl (omega arith)
   stands (long-var _ _) = inl (omega arith)
   stands (unknown _) = inl (omega arith)
   stands (long-const _ _) = inl (omega arith)
-  stands (in-signed f) = deeper (λ _ _ u. in-sign u) (stands f)
+  stands (in-signed f) = deeper (λ _ _ u. under-sign u) (stands f)
   stands (bad-signed _ _) = inl (omega arith)
   stands (long-sign _ _) = inl (omega arith)
-  stands (in-sayer f) = deeper (λ _ _ u. in-first u) (stands f)
+  stands (in-sayer f) = deeper (λ _ _ u. under-first u) (stands f)
   stands (bad-sayer _ _) = inl (omega arith)
-  stands (in-said _ f) = deeper (λ _ _ u. in-says u) (stands f)
+  stands (in-said _ f) = deeper (λ _ _ u. under-says u) (stands f)
   stands (bad-said _ _ _) = inl (omega arith)
-  stands (in-pi-domain f) = deeper (λ _ _ u. in-first u) (stands f)
+  stands (in-pi-domain f) = deeper (λ _ _ u. under-first u) (stands f)
   stands (bad-pi-domain _ _) = inl (omega arith)
-  stands (in-pi-body _ _ f) = deeper (λ _ _ u. in-pi u) (stands f)
+  stands (in-pi-body _ _ f) = deeper (λ _ _ u. under-pi u) (stands f)
   stands (bad-pi-body _ _ _ _) = inl (omega arith)
-  stands (in-lam-domain f) = deeper (λ _ _ u. in-first u) (stands f)
+  stands (in-lam-domain f) = deeper (λ _ _ u. under-first u) (stands f)
   stands (bad-lam-domain _ _) = inl (omega arith)
-  stands (in-lam-body _ _ f) = deeper (λ _ _ u. in-lam u) (stands f)
+  stands (in-lam-body _ _ f) = deeper (λ _ _ u. under-lam u) (stands f)
   stands (bad-lam-body _ _ _ _) = inl (omega arith)
   stands (long-lam _ _ _ _ _) = inl (omega arith)
-  stands (in-function f) = deeper (λ _ _ u. in-first u) (stands f)
-  stands (bad-function D n) = here (function D n)
-  stands (in-argument _ f) = deeper (λ _ _ u. in-app u) (stands f)
-  stands (bad-argument D E n) = here (argument D E n)
+  stands (in-function f) = deeper (λ _ _ u. under-first u) (stands f)
+  stands (function-not-pi D n) = here (separate-function D n)
+  stands (in-argument _ f) = deeper (λ _ _ u. under-app u) (stands f)
+  stands (argument-not-domain D E n) = here (separate-argument D E n)
   stands (long-app _ _ _) = inl (omega arith)
-  stands (in-ret-principal f) = deeper (λ _ _ u. in-first u) (stands f)
+  stands (in-ret-principal f) = deeper (λ _ _ u. under-first u) (stands f)
   stands (bad-ret-principal _ _) = inl (omega arith)
-  stands (in-ret-proof _ f) = deeper (λ _ _ u. in-ret u) (stands f)
+  stands (in-ret-proof _ f) = deeper (λ _ _ u. under-ret u) (stands f)
   stands (bad-ret-proof _ _ _) = inl (omega arith)
   stands (long-ret _ _ _ _) = inl (omega arith)
-  stands (in-bound f) = deeper (λ _ _ u. in-first u) (stands f)
+  stands (in-bound f) = deeper (λ _ _ u. under-first u) (stands f)
   stands (bad-bound _ _) = inl (omega arith)
-  stands (in-rest D f) = deeper (λ _ _ u. in-bind (D .0) u) (stands f)
+  stands (in-rest D f) = deeper (λ _ _ u. under-bind (D .0) u) (stands f)
   stands (bad-rest _ _ _) = inl (omega arith)
-  stands (escapes D E n) = here (escape D E n)
+  stands (escapes D E n) = here (separate-escape D E n)
   stands (long-bind _ _ _ _) = inl (omega arith)
 
   -- and each such term faults
   faults : {Γ : List Term} {t : Term} {m : ℕ} → Separate Σ Γ t m → Faults Σ Γ t m 0
-  faults (function D n) = bad-function D n
-  faults (argument D E n) = bad-argument D E n
-  faults (escape D E n) = escapes D E n
+  faults (separate-function D n) = function-not-pi D n
+  faults (separate-argument D E n) = argument-not-domain D E n
+  faults (separate-escape D E n) = escapes D E n
 
   module _ (sig : Signature Σ) where
     pub separate-refusals : SeparateRefusals Σ
@@ -97,7 +97,7 @@ module _ (Σ : List Term) where
             go {i} q (inr (Δ, s, u, b)) = inr (record { index = i; place = q; scope = Δ; which = s; stands = u; broken = b })
 
 pub separate-examples : SeparateExamples
-unfolding infer same-term conclusion constants read too-deep shift fillAt occurs size encode ℕ-discrete
+unfolding infer same-term conclusion constants read too-deep shift fill-at occurs size encode ℕ-discrete
 separate-examples = record {
   function-within = refl;
   argument-within = refl;

@@ -13,9 +13,9 @@ use Rattle.logic.specs.Typing.{of-prop, Has, has-prop, has-type, has-str
 use Rattle.logic.specs.Typing.{has-pi, has-lam, has-app, has-sign, has-ret, has-bind}
 use Rattle.logic.specs.Scope.{Signature, Context, no-binder, binder}
 use Rattle.logic.specs.Infer.{measured, domain, body, proposition, parts, infer}
-use Rattle.logic.specs.Measured.{Small, Measured}
+use Rattle.logic.specs.Measured.{TypeSmall, Measured}
 use Rattle.logic.proofs.Results.{not-ok, bound, tested, found}
-use Rattle.logic.proofs.Regularity.{said, stratify}
+use Rattle.logic.proofs.Regularity.{said-types, stratify}
 use Rattle.logic.proofs.Proposition.{proposition-right}
 use Rattle.logic.proofs.Conditions.{measured-ok, parts-some, domain-ok, body-ok, same-tested}
 
@@ -23,7 +23,7 @@ module _ (Σ : List Term) (sig : Signature Σ) where
   abbrev pub Checks : List Term → Term → Term → Type 0
   Checks Γ t A = (D : Has Σ Γ t A) × Measured D
 
-  conclude : {Γ : List Term} {t X A : Term} (at : ℕ) (D : Has Σ Γ t X) → (Small X → Measured D) → measured at X ≡ ok A → Checks Γ t A
+  conclude : {Γ : List Term} {t X A : Term} (at : ℕ) (D : Has Σ Γ t X) → (TypeSmall X → Measured D) → measured at X ≡ ok A → Checks Γ t A
   conclude {Γ} {t} at D m e = let (s, p) = measured-ok at e in subst (λ X. Checks Γ t X) p (D, m s)
 
   pub sound : {A : Term} (t : Term) (Γ : List Term) (at : ℕ) → Context Σ Γ → infer Σ Γ at t ≡ ok A → Checks Γ t A
@@ -79,6 +79,6 @@ module _ (Σ : List Term) (sig : Signature Σ) where
       bound (infer Σ (p .right ∷ Γ) (at + 1 + size x) b) _ e₄ λ B e₅ e₆. found _ _ (parts saysO B) _ e₆ λ r e₇ e₈.
       same-tested (r .left) (raise 1 (p .left)) _ _ _ e₈ λ q e₉. tested (eqb (occurs 0 (r .right)) 0) _ _ _ e₉ λ z e₁₀.
       let (h, k) = sound x Γ (at + 1) c (rw (parts-some saysO E e₃) at e₁) in
-      let c′ = binder c (said Σ sig (stratify Σ sig c h) .1) of-prop in
+      let c′ = binder c (said-types Σ sig (stratify Σ sig c h) .1) of-prop in
       let (h′, k′) = sound b (p .right ∷ Γ) (at + 1 + size x) c′ (rw (parts-some saysO B e₇, q) at e₅) in
       conclude at (has-bind h h′ (eqb-true (occurs 0 (r .right)) 0 z)) (λ m. (k, k′, m)) e₁₀

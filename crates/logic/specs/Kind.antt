@@ -2,7 +2,7 @@
 use Prim.Native.Nat.{ℕ}
 use mathlib.Core.Bool.{Bool, false, cond}
 use Rattle.logic.specs.Term.{Op, Term, atom, var, sign, node, binds}
-use Rattle.logic.specs.Reading.{Shape, leaf, signed, branch, no-term}
+use Rattle.logic.specs.Reading.{WordShape, leaf, sign-word, branch, no-term}
 
 abbrev pub kind-atom : ℕ
 kind-atom = 0
@@ -24,31 +24,31 @@ kind-binder = 4
 abbrev pub kind-none : ℕ
 kind-none = 5
 
-abbrev pub leafKind : Term → ℕ
-leafKind (atom a) = kind-atom
-leafKind (var n) = kind-variable
-leafKind (sign n q) = kind-atom
-leafKind (node o a b) = kind-atom
+abbrev pub leaf-kind : Term → ℕ
+leaf-kind (atom a) = kind-atom
+leaf-kind (var n) = kind-variable
+leaf-kind (sign n q) = kind-atom
+leaf-kind (node o a b) = kind-atom
 
-abbrev pub opKind : Op → ℕ
-opKind o = cond (binds o) kind-binder kind-node
+abbrev pub op-kind : Op → ℕ
+op-kind o = cond (binds o) kind-binder kind-node
 
-abbrev pub kindOf : Shape → ℕ
-kindOf (leaf t) = leafKind t
-kindOf (signed n) = kind-sign
-kindOf (branch o) = opKind o
-kindOf no-term = kind-none
+abbrev pub shape-kind : WordShape → ℕ
+shape-kind (leaf t) = leaf-kind t
+shape-kind (sign-word n) = kind-sign
+shape-kind (branch o) = op-kind o
+shape-kind no-term = kind-none
 
 -- the number of children, and one more than a term's word can have for no term
-abbrev pub childrenOf : Shape → ℕ
-childrenOf (leaf t) = 0
-childrenOf (signed n) = 1
-childrenOf (branch o) = 2
-childrenOf no-term = 3
+abbrev pub shape-children : WordShape → ℕ
+shape-children (leaf t) = 0
+shape-children (sign-word n) = 1
+shape-children (branch o) = 2
+shape-children no-term = 3
 
 -- whether the second child stands under a binder
-abbrev pub bindsOf : Shape → Bool
-bindsOf (leaf t) = false
-bindsOf (signed n) = false
-bindsOf (branch o) = binds o
-bindsOf no-term = false
+abbrev pub shape-binds : WordShape → Bool
+shape-binds (leaf t) = false
+shape-binds (sign-word n) = false
+shape-binds (branch o) = binds o
+shape-binds no-term = false

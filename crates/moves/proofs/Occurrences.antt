@@ -10,12 +10,12 @@ use lib.ListN.{getD}
 use borrow.Author.Tests.{eq-eqb, ne-eqb, eqb-true}
 use Rattle.logic.specs.Term.{Atom, Op, Term, atom, var, sign, node, payload-of, size, binds, under}
 use Rattle.logic.specs.Move.{occurs}
-use Rattle.logic.specs.Kind.{kind-node, opKind}
+use Rattle.logic.specs.Kind.{kind-node, op-kind}
 use Rattle.logic.proofs.Basics.{clash}
 use Rattle.words.specs.Place.{At}
-use Rattle.words.proofs.Places.{at-left, at-right, payload, deeper}
+use Rattle.words.proofs.Places.{at-left, at-right, at-payload, deeper}
 use Rattle.moves.specs.Occurrence.{absent}
-use Rattle.moves.proofs.Cases.{given, not-given}
+use Rattle.moves.proofs.Cases.{cond-given, cond-not-given}
 
 -- r is the answer for any term that stands there
 abbrev pub Finds : List ℕ → ℕ → ℕ → Option ℕ → Type 0
@@ -28,10 +28,10 @@ pub record Missed (n end next : ℕ) : Type 0 where
   pub next-is : next ≡ end
 
 pub absent-is : (n end next : ℕ) → some next ≡ absent end n → Missed n end next
-absent-is n end next e = let (i, j) = given (eqb n 0) end e in record { never = eqb-true n 0 i; next-is = j }
+absent-is n end next e = let (i, j) = cond-given (eqb n 0) end e in record { never = eqb-true n 0 i; next-is = j }
 
 pub present-is : (n end : ℕ) → none ≡ absent end n → eqb n 0 ≡ false
-present-is n end e = not-given (eqb n 0) end e
+present-is n end e = cond-not-given (eqb n 0) end e
 
 -- ---- what each step answers
 
@@ -46,11 +46,11 @@ occurs-sign c n q e = ap some e
 module _ (ws : List ℕ) (at c p : ℕ) (j : p ≡ payload-of (getD ws at 0)) (n : ℕ) (h : At ws at (var n)) where
   pub occurs-here : p ≡ c → none ≡ absent (at + size (var n)) (occurs c (var n))
   unfolding occurs
-  occurs-here d = simp (eq-eqb n c (sym (j ∙ payload ws at n h) ∙ d))
+  occurs-here d = simp (eq-eqb n c (sym (j ∙ at-payload ws at n h) ∙ d))
 
   pub occurs-other : (p ≡ c → ⊥) → some (at + 1) ≡ absent (at + size (var n)) (occurs c (var n))
   unfolding occurs size
-  occurs-other d = simp (ne-eqb n c (λ i. d (j ∙ payload ws at n h ∙ i)))
+  occurs-other d = simp (ne-eqb n c (λ i. d (j ∙ at-payload ws at n h ∙ i)))
 
 present-first : (n m end end′ : ℕ) → none ≡ absent end n → none ≡ absent end′ (n + m)
 present-first zero m end end′ e = absurd (clash (cc))
@@ -63,7 +63,7 @@ module _ (ws : List ℕ) (at c : ℕ) {r : Option ℕ} (f : Finds ws c (at + 1) 
   occurs-first q = q ∙ present-first (occurs c a) _ (at + 1 + size a) _ (sym q ∙ f a (at-left h))
 
   -- the second child decides
-  pub occurs-second : (k : ℕ) {next : ℕ} {s : Option ℕ} → k ≡ opKind o → r ≡ some next → Finds ws (c + (k - kind-node)) next s
+  pub occurs-second : (k : ℕ) {next : ℕ} {s : Option ℕ} → k ≡ op-kind o → r ≡ some next → Finds ws (c + (k - kind-node)) next s
       → s ≡ absent (at + size (node o a b)) (occurs c (node o a b))
   unfolding occurs size
   occurs-second k {next} i q g =

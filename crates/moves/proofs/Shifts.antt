@@ -9,14 +9,14 @@ use lib.Seq.{set-getD, take-length}
 use lib.Dec.{ltb}
 use lib.IntN.{ℤ}
 use Rattle.logic.specs.Tags.{tag-variable}
-use Rattle.logic.specs.Term.{Op, Term, atom, var, sign, node, payload-of, word, opWord, encode, size, binds, under}
+use Rattle.logic.specs.Term.{Op, Term, atom, var, sign, node, payload-of, word, op-word, encode, size, binds, under}
 use Rattle.logic.specs.Move.{moved, shift}
-use Rattle.logic.specs.Kind.{kind-variable, kind-node, opKind}
+use Rattle.logic.specs.Kind.{kind-variable, kind-node, op-kind}
 use Rattle.logic.proofs.Words.{encode-size}
-use Rattle.logic.proofs.Shapes.{headKind, op-low}
-use Rattle.words.specs.Place.{At, Is, written}
+use Rattle.logic.proofs.Shapes.{term-kind, op-low}
+use Rattle.words.specs.Place.{At, Is, written-at}
 use Rattle.words.proofs.Lists.{written-set, written-node, written-same, written-over, drop-written}
-use Rattle.words.proofs.Places.{at-head, at-end, at-part, payload, at-after, at-left, at-right, deeper}
+use Rattle.words.proofs.Places.{at-head, at-end, at-part, at-payload, at-after, at-left, at-right, deeper}
 use Rattle.moves.specs.Shift.{Shifted}
 
 pub size-shift : (c : ℕ) (z : ℤ) (t : Term) → size (shift c z t) ≡ size t
@@ -40,7 +40,7 @@ second-stands ws mid at c ra z a b l f h =
     (at-after (at + 1) (encode (shift c z a)) (omega arith) (omega (arith, f .count)) (subst (λ (i : ℕ). At ws (at + 1 + i) b) (sym (f .count)) h))
 
 -- an atom or a Sign stays
-stays : (c : ℕ) (z : ℤ) (k : ℕ) → (k ≡ kind-variable → ⊥) → k < kind-node → (t : Term) → k ≡ headKind t → shift c z t ≡ t
+stays : (c : ℕ) (z : ℤ) (k : ℕ) → (k ≡ kind-variable → ⊥) → k < kind-node → (t : Term) → k ≡ term-kind t → shift c z t ≡ t
 unfolding shift
 stays c z k n l (atom a) q = refl
 stays c z k n l (var m) q = absurd (n q)
@@ -48,11 +48,11 @@ stays c z k n l (sign m u) q = refl
 stays c z k n l (node o a b) q = absurd (omega (arith, op-low o))
 
 module _ (ws : List ℕ) (at c : ℕ) (z : ℤ) where
-  pub kept-shifted : (k end : ℕ) → (k ≡ kind-variable → ⊥) → k < kind-node → (t : Term) → k ≡ headKind t → At ws at t → end ≡ at + size t
+  pub kept-shifted : (k end : ℕ) → (k ≡ kind-variable → ⊥) → k < kind-node → (t : Term) → k ≡ term-kind t → At ws at t → end ≡ at + size t
       → Shifted t c z ws at ws (end - at)
   kept-shifted k end n l t q h e = record {
     count = omega arith;
-    words = sym (written-same ws at (size t) (at-end h)) ∙ ap (written ws at) (at-part h ∙ ap encode (sym (stays c z k n l t q)));
+    words = sym (written-same ws at (size t) (at-end h)) ∙ ap (written-at ws at) (at-part h ∙ ap encode (sym (stays c z k n l t q)));
   }
 
   -- z′ is the amount as it is read back from its bits
@@ -62,33 +62,33 @@ module _ (ws : List ℕ) (at c : ℕ) (z : ℤ) where
   var-shifted p i l j f n h = record {
     count = refl;
     words = written-set ws at _ l
-        ∙ ap (λ (v : ℕ). written ws at (word tag-variable v ∷ [])) (f ∙ ap₂ (λ (y : ℤ) (m : ℕ). cond (ltb m c) m (moved y m)) i (j ∙ payload ws at n h));
+        ∙ ap (λ (v : ℕ). written-at ws at (word tag-variable v ∷ [])) (f ∙ ap₂ (λ (y : ℤ) (m : ℕ). cond (ltb m c) m (moved y m)) i (j ∙ at-payload ws at n h));
   }
 
   pub node-shifted : {mid new : List ℕ} {z′ : ℤ} (k : ℕ) {ra rb : ℕ} → z′ ≡ z → at < length ws
       → ((a : Term) → At ws (at + 1) a → Shifted a c z′ ws (at + 1) mid ra)
       → ((b : Term) → At mid (at + 1 + ra) b → Shifted b (c + (k - kind-node)) z′ mid (at + 1 + ra) new rb)
-      → (o : Op) (a b : Term) → k ≡ opKind o → At ws at (node o a b) → Shifted (node o a b) c z ws at new (1 + ra + rb)
+      → (o : Op) (a b : Term) → k ≡ op-kind o → At ws at (node o a b) → Shifted (node o a b) c z ws at new (1 + ra + rb)
   unfolding size shift encode
   node-shifted {mid} {new} {z′} k {ra} {rb} i l f g o a b q h =
       let F = f a (at-left h) in
       let G = g b (second-stands ws mid at c ra z′ a b l F (at-right h)) in
       let x : List ℕ = encode (shift c z a) in
       let y : List ℕ = encode (shift (under (binds o) suc c) z b) in
-      let there : ws ≡ set ws at (opWord o) = sym (set-getD ws at 0) ∙ ap (set ws at) (at-head h) in
+      let there : ws ≡ set ws at (op-word o) = sym (set-getD ws at 0) ∙ ap (set ws at) (at-head h) in
       record {
         count = omega (arith, F .count, G .count);
-        words = written-node ws mid new at (opWord o) ra x y l (F .count ∙ sym (length-shift c z a))
-            (F .words ∙ ap₂ (λ (v : ℤ) (m : List ℕ). written m (at + 1) (encode (shift c v a))) i there)
-            (G .words ∙ ap₂ (λ (v : ℤ) (n : ℕ). written mid (at + 1 + ra) (encode (shift n v b))) i (deeper (binds o) k c q));
+        words = written-node ws mid new at (op-word o) ra x y l (F .count ∙ sym (length-shift c z a))
+            (F .words ∙ ap₂ (λ (v : ℤ) (m : List ℕ). written-at m (at + 1) (encode (shift c v a))) i there)
+            (G .words ∙ ap₂ (λ (v : ℤ) (n : ℕ). written-at mid (at + 1 + ra) (encode (shift n v b))) i (deeper (binds o) k c q));
       }
 
 -- ---- copied, and then shifted in place
 
-module _ (src old mid : List ℕ) (to : ℕ) (l : to ≤ length old) (w : mid ≡ written old to (take (length src) (drop 0 src)))
+module _ (src old mid : List ℕ) (to : ℕ) (l : to ≤ length old) (w : mid ≡ written-at old to (take (length src) (drop 0 src)))
     {t : Term} (i : Is src t) where
-  copied : mid ≡ written old to (encode t)
-  copied = w ∙ ap (written old to) (take-length src ∙ i .words)
+  copied : mid ≡ written-at old to (encode t)
+  copied = w ∙ ap (written-at old to) (take-length src ∙ i .words)
 
   -- the copy stands there
   pub copy-stands : At mid to t
@@ -107,6 +107,6 @@ module _ (src old mid : List ℕ) (to : ℕ) (l : to ≤ length old) (w : mid �
       record {
         count = s .count;
         words = s .words
-            ∙ ap₂ (λ (m : List ℕ) (v : ℤ). written m to (encode (shift c v t))) copied j
+            ∙ ap₂ (λ (m : List ℕ) (v : ℤ). written-at m to (encode (shift c v t))) copied j
             ∙ written-over old to (encode t) (encode (shift c z t)) l (encode-size t ∙ sym (length-shift c z t));
       }

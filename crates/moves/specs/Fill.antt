@@ -8,7 +8,7 @@ use lib.ListN.{length}
 use lib.Dec.{leb}
 use Rattle.logic.specs.Limits.{payloads}
 use Rattle.logic.specs.Term.{Term, encode, size}
-use Rattle.words.specs.Place.{At, Is, written}
+use Rattle.words.specs.Place.{At, Is, written-at}
 use Rattle.moves.specs.declared.fill.Filled.{Filled}
 use Rattle.moves.specs.declared.fill.Filled.the-variants.{Done, Over}
 
@@ -29,4 +29,4 @@ filled-answer Over = none
 -- of t, which stands at a place, u is written from the place to on, if there is room
 pub record FilledTo (t u : Term) (at : ℕ) (old : List ℕ) (to : ℕ) (new : List ℕ) (r : Filled) : Type 0 where
   pub answer : filled-answer r ≡ cond (leb (to + size u) (length old)) (some (at + size t, to + size u)) none
-  pub words : to + size u ≤ length old → new ≡ written old to (encode u)
+  pub words : to + size u ≤ length old → new ≡ written-at old to (encode u)

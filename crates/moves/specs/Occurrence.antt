@@ -11,7 +11,7 @@ use Rattle.moves.specs.declared.occurrence.Occurrence.{Occurrence}
 use Rattle.moves.specs.declared.occurrence.Occurrence.the-variants.{Absent, Present}
 
 -- a term stands at a place, and the binders that are passed do not make c too big
-pub record Searchable (ws : List ℕ) (at c : ℕ) : Type 0 where
+pub record TermSearchable (ws : List ℕ) (at c : ℕ) : Type 0 where
   pub term : Term
   pub here : At ws at term
   pub deep : c + size term ≤ payloads

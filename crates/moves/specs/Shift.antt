@@ -7,7 +7,7 @@ use lib.IntN.{ℤ, natAbs}
 use Rattle.logic.specs.Limits.{payloads}
 use Rattle.logic.specs.Term.{Term, encode, size}
 use Rattle.logic.specs.Move.{shift}
-use Rattle.words.specs.Place.{At, Is, written}
+use Rattle.words.specs.Place.{At, Is, written-at}
 
 -- a term stands at a place, there is room for its words, and its variables' numbers stay far below 2 ^ 31
 pub record Shiftable (ws : List ℕ) (at c : ℕ) (z : ℤ) (room : ℕ) : Type 0 where
@@ -28,4 +28,4 @@ pub record ShiftableWhole (ws : List ℕ) (c : ℕ) (z : ℤ) (room : ℕ) : Typ
 -- the words of the shifted term were written at a place
 pub record Shifted (t : Term) (c : ℕ) (z : ℤ) (old : List ℕ) (to : ℕ) (new : List ℕ) (r : ℕ) : Type 0 where
   pub count : r ≡ size t
-  pub words : new ≡ written old to (encode (shift c z t))
+  pub words : new ≡ written-at old to (encode (shift c z t))

@@ -12,7 +12,7 @@ use words::part::skip;
 ghost use Prim.Native.Nat.{ℕ, _+_, _-_, _≤_, _<_};
 ghost use lib.ListN.{length};
 ghost use Rattle.logic.specs.Term.{Term, var};
-ghost use Rattle.logic.specs.Move.{fillAt};
+ghost use Rattle.logic.specs.Move.{fill-at};
 ghost use Rattle.words.specs.Place.{At, Is};
 ghost use Rattle.moves.specs.Fill.{Fillable, FilledTo};
 
@@ -33,7 +33,7 @@ fn fill_variable(
 ) -> Filled
     requires { ⌜ (to ≤ length (now out)) × Fillable (now src) at c (now filler) ⌝ }
     ensures { λ r. ⌜ ((n : ℕ) → (e : Term) → At (now (src .entry)) at (var n) → Is (now (filler .entry)) e
-        → FilledTo (var n) (fillAt c e (var n)) at (now (out .entry)) to (now (out .exit)) r) ⌝ }
+        → FilledTo (var n) (fill-at c e (var n)) at (now (out .entry)) to (now (out .exit)) r) ⌝ }
 {
     let word = src[at];
     let n = payload_of(word);
@@ -77,7 +77,7 @@ pub fn fill_into(
 ) -> Filled
     requires { ⌜ (to ≤ length (now out)) × Fillable (now src) at c (now filler) ⌝ }
     ensures { λ r. ⌜ ((t e : Term) → At (now (src .entry)) at t → Is (now (filler .entry)) e
-        → FilledTo t (fillAt c e t) at (now (out .entry)) to (now (out .exit)) r) ⌝ }
+        → FilledTo t (fill-at c e t) at (now (out .entry)) to (now (out .exit)) r) ⌝ }
 {
     let mut start = at;
     let mut depth = c;

@@ -11,7 +11,7 @@ ghost use Prim.Native.Nat.{_+_};
 ghost use Rattle.logic.specs.Term.{Term, size};
 ghost use Rattle.logic.specs.Move.{occurs as occursIn};
 ghost use Rattle.words.specs.Place.{At};
-ghost use Rattle.moves.specs.Occurrence.{Searchable, occurrence-answer, absent};
+ghost use Rattle.moves.specs.Occurrence.{TermSearchable, occurrence-answer, absent};
 
 // Where a term ends that the variable does not occur in.
 pub enum Occurrence {
@@ -21,7 +21,7 @@ pub enum Occurrence {
 
 // Whether variable c occurs in the term that stands at `at`.
 pub fn occurs(words: &[u32], at: usize, c: u32) -> Occurrence
-    requires { ⌜ Searchable (now words) at c ⌝ }
+    requires { ⌜ TermSearchable (now words) at c ⌝ }
     ensures { λ r. ⌜ ((t : Term) → At (now (words .entry)) at t → occurrence-answer r ≡ absent (at + size t) (occursIn c t)) ⌝ }
 {
     let word = words[at];

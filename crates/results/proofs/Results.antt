@@ -17,17 +17,17 @@ use Rattle.logic.specs.Refusals.{condition-fails, type-too-long, argument-misma
 use Rattle.logic.specs.Result.{Result, refused, _>>_, require}
 use Rattle.logic.specs.Tags.{tag-name, tag-sign}
 use Rattle.logic.specs.Term.{Op, saysO, piO, lamO, appO, retO, bindO, Term, atom, var, sign, node, binds, under, P, KindP, KindT, Name, Says, word}
-use Rattle.logic.specs.Term.{payload-of, opWord, encode, size}
-use Rattle.logic.specs.Move.{shift, raise, lower, fillAt, fill, occurs}
-use Rattle.logic.specs.Reading.{branch, shape, Plain, PlainType}
+use Rattle.logic.specs.Term.{payload-of, op-word, encode, size, first-word}
+use Rattle.logic.specs.Move.{shift, raise, lower, fill-at, fill, occurs}
+use Rattle.logic.specs.Reading.{branch, word-shape, Plain, PlainType, InRange}
 use Rattle.logic.specs.Infer.{same-term, same, conclusion, proposition, measured}
 use Rattle.logic.proofs.Basics.{clash}
 use Rattle.logic.proofs.Results.{pass}
 use Rattle.logic.proofs.Stopped.{fail}
 use Rattle.logic.proofs.Free.{lower-raise}
 use Rattle.logic.proofs.Proposition.{same-yes, same-no}
-use Rattle.logic.proofs.Words.{head, first, shape-first, InRange, plain-in-range, encode-size, prefix-free, size-pos, node-plain}
-use Rattle.words.specs.Place.{At, Is, written}
+use Rattle.logic.proofs.Words.{head, shape-first, plain-in-range, encode-size, prefix-free, size-pos, node-plain}
+use Rattle.words.specs.Place.{At, Is, written-at}
 use Rattle.words.specs.Typed.{TypeAt}
 use Rattle.moves.specs.Shift.{Shifted}
 use Rattle.moves.specs.Fill.{FilledTo}
@@ -40,12 +40,12 @@ use Rattle.words.proofs.Types.{in-range}
 use Rattle.moves.proofs.Shifts.{size-shift, length-shift}
 use Rattle.moves.proofs.Fills.{done-is, over-is}
 use Rattle.moves.proofs.Occurrences.{absent-is, present-is}
-use Rattle.rules.specs.Rule.{sign-type, paired, applied, bound}
+use Rattle.rules.specs.Rule.{sign-type, pair-type, app-type, bind-type}
 use Rattle.rules.specs.Scope.{entry-head}
-use Rattle.rules.specs.Form.{front-words, Formed}
+use Rattle.rules.specs.Form.{front-words, TypeFormed}
 use Rattle.results.specs.Results.{Applies, Pairs, Binds, Signs}
 use Rattle.rules.specs.declared.derivation.Derivation.the-variants.{Typed, Refused}
-use Rattle.rules.proofs.Fronts.{denied, type-part, written-kept, written-there, measured-fits, measured-long, refuses, writes}
+use Rattle.rules.proofs.Fronts.{denied, type-part, written-kept, written-there, measured-fits, measured-long, formed-refused, writes}
 
 -- ---- words and terms
 
@@ -61,10 +61,10 @@ module _ (proof ws : List ℕ) (at next n m end : ℕ) (d C e E : Term) (j : App
   function-size = let q : suc (size d + size C) ≡ 1 + size d + size C = omega arith in j .function-words ∙ q
 
   -- the argument's type is not the domain
-  unlike : (E ≡ d → ⊥) → Formed (applied at d C e E) end ws ws (Refused argument-mismatch at)
-  unlike q = refuses _ argument-mismatch at end ws (fail _ at _ (same-no q))
+  unlike : (E ≡ d → ⊥) → TypeFormed (app-type at d C e E) end ws ws (Refused argument-mismatch at)
+  unlike q = formed-refused _ argument-mismatch at end ws (fail _ at _ (same-no q))
 
-  pub apply-short : n ≤ 1 + m → Formed (applied at d C e E) end ws ws (Refused argument-mismatch at)
+  pub apply-short : n ≤ 1 + m → TypeFormed (app-type at d C e E) end ws ws (Refused argument-mismatch at)
   apply-short l = unlike λ q.
       let s : size E ≡ size d = ap size q in
       let f = function-size in
@@ -86,7 +86,7 @@ module _ (proof ws : List ℕ) (at next n m end : ℕ) (d C e E : Term) (j : App
       ap (λ (i : ℕ). take i (drop n ws)) i ∙ type-part (j .argument)
 
   pub apply-differs : (r : Bool) → not r ≡ true → (take (1 + m - 1) (drop 1 ws) ≡ take (n + m - n) (drop n ws) → r ≡ true)
-      → Formed (applied at d C e E) end ws ws (Refused argument-mismatch at)
+      → TypeFormed (app-type at d C e E) end ws ws (Refused argument-mismatch at)
   apply-differs r t f = unlike λ q. denied r t (f (domain-part (ap size q) ∙ ap encode (sym q) ∙ sym type-words))
 
   module _ (agree : take (1 + m - 1) (drop 1 ws) ≡ take (n + m - n) (drop n ws)) where
@@ -101,31 +101,31 @@ module _ (proof ws : List ℕ) (at next n m end : ℕ) (d C e E : Term) (j : App
     pub argument-is : Is (take (end - next) (drop next proof)) e
     argument-is = record { plain = j .here .plain; words = part-is end (j .here) (j .end-is) }
 
-    filled-type : (o : Result Term) → measured at (fill C e) ≡ o → applied at d C e E ≡ o
+    filled-type : (o : Result Term) → measured at (fill C e) ≡ o → app-type at d C e E ≡ o
     filled-type o q = pass argument-mismatch at (same-yes domain-is) q
 
-    module _ (zeros filled : List ℕ) (r : Filled) (f : FilledTo C (fillAt 0 e C) (1 + m) zeros 0 filled r) where
-      pub apply-over : length zeros ≡ most-type-words → r ≡ Over → Formed (applied at d C e E) end ws ws (Refused type-too-long at)
+    module _ (zeros filled : List ℕ) (r : Filled) (f : FilledTo C (fill-at 0 e C) (1 + m) zeros 0 filled r) where
+      pub apply-over : length zeros ≡ most-type-words → r ≡ Over → TypeFormed (app-type at d C e E) end ws ws (Refused type-too-long at)
       apply-over l o =
-          let g = over-is C (fillAt 0 e C) (1 + m) 0 (length zeros) (f .answer) o in
-          refuses _ type-too-long at end ws (filled-type _ (measured-long at (fill C e) (omega arith)))
+          let g = over-is C (fill-at 0 e C) (1 + m) 0 (length zeros) (f .answer) o in
+          formed-refused _ type-too-long at end ws (filled-type _ (measured-long at (fill C e) (omega arith)))
 
-      pub apply-done : length zeros ≤ most-type-words → (new : List ℕ) (k words : ℕ) → r ≡ Done k words → new ≡ written ws 0 (take words (drop 0 filled))
-          → Formed (applied at d C e E) end ws new (Typed words end)
+      pub apply-done : length zeros ≤ most-type-words → (new : List ℕ) (k words : ℕ) → r ≡ Done k words → new ≡ written-at ws 0 (take words (drop 0 filled))
+          → TypeFormed (app-type at d C e E) end ws new (Typed words end)
       apply-done l new k words o c =
-          let was = done-is C (fillAt 0 e C) (1 + m) 0 (length zeros) (f .answer) k words o in
-          let s : words ≡ size (fillAt 0 e C) = let x : words ≡ 0 + size (fillAt 0 e C) = was .end-is in omega arith in
+          let was = done-is C (fill-at 0 e C) (1 + m) 0 (length zeros) (f .answer) k words o in
+          let s : words ≡ size (fill-at 0 e C) = let x : words ≡ 0 + size (fill-at 0 e C) = was .end-is in omega arith in
           let fits = was .fits in
           let small : size (fill C e) ≤ most-type-words = omega arith in
-          let b : filled ≡ written zeros 0 (encode (fillAt 0 e C)) = f .words (omega arith) in
+          let b : filled ≡ written-at zeros 0 (encode (fill-at 0 e C)) = f .words (omega arith) in
           writes _ (fill C e) words end ws ws new (filled-type _ (measured-fits at (fill C e) small)) s small (j .plain domain-is small) refl
-          (c ∙ ap (written ws 0) (written-front zeros filled (encode (fillAt 0 e C)) words b (s ∙ sym (encode-size (fillAt 0 e C)))))
+          (c ∙ ap (written-at ws 0) (written-front zeros filled (encode (fill-at 0 e C)) words b (s ∙ sym (encode-size (fill-at 0 e C)))))
 
 -- ---- a Sign
 
 module _ (proof ws : List ℕ) (at n end a : ℕ) (q s : Term) (j : Signs proof ws at n end a q s) (r : Bool) (f : r ≡ same s P) where
-  pub sign-unlike : not r ≡ true → Formed (sign-type at a q s) end ws ws (Refused condition-fails at)
-  sign-unlike t = refuses _ condition-fails at end ws (fail _ at _ (sym f ∙ not-true r t))
+  pub sign-unlike : not r ≡ true → TypeFormed (sign-type at a q s) end ws ws (Refused condition-fails at)
+  sign-unlike t = formed-refused _ condition-fails at end ws (fail _ at _ (sym f ∙ not-true r t))
 
   module _ (t : not r ≡ false) where
     signed-type : (o : Result Term) → measured at (Says (Name a) q) ≡ o → sign-type at a q s ≡ o
@@ -135,12 +135,12 @@ module _ (proof ws : List ℕ) (at n end a : ℕ) (q s : Term) (j : Signs proof 
     unfolding size
     signed-size = let e : end ≡ at + suc (size q) = j .end-is in omega arith
 
-    pub sign-long : most-type-words < end - at + 1 → Formed (sign-type at a q s) end ws ws (Refused type-too-long at)
-    sign-long l = let z = signed-size in refuses _ type-too-long at end ws (signed-type _ (measured-long at _ (omega arith)))
+    pub sign-long : most-type-words < end - at + 1 → TypeFormed (sign-type at a q s) end ws ws (Refused type-too-long at)
+    sign-long l = let z = signed-size in formed-refused _ type-too-long at end ws (signed-type _ (measured-long at _ (omega arith)))
 
     pub sign-done : (new : List ℕ) (n : ℕ) → n ≡ payload-of (getD proof at 0) → end - at + 1 ≤ most-type-words → 2 ≤ length ws
-        → new ≡ written (set (set ws 0 (opWord saysO)) 1 (word tag-name n)) 2 (take (end - at + 1 - 2) (drop (at + 1) proof))
-        → Formed (sign-type at a q s) end ws new (Typed (end - at + 1) end)
+        → new ≡ written-at (set (set ws 0 (op-word saysO)) 1 (word tag-name n)) 2 (take (end - at + 1 - 2) (drop (at + 1) proof))
+        → TypeFormed (sign-type at a q s) end ws new (Typed (end - at + 1) end)
     unfolding size encode Plain
     sign-done new n r l m c =
         let z : end - at + 1 ≡ suc (1 + size q) = signed-size in
@@ -149,12 +149,12 @@ module _ (proof ws : List ℕ) (at n end a : ℕ) (q s : Term) (j : Signs proof 
         let g : a < payloads = j .here .plain .0 in
         let h : getD proof at 0 ≡ word tag-sign a = at-head (j .here) in
         let p : n ≡ a = omega arith in
-        let i : length (set ws 0 (opWord saysO)) ≡ length ws = length-set ws 0 (opWord saysO) in
+        let i : length (set ws 0 (op-word saysO)) ≡ length ws = length-set ws 0 (op-word saysO) in
         writes _ (Says (Name a) q) _ end ws ws new (signed-type _ (measured-fits at _ small)) z small (inl (g, j .here .plain .1)) refl
-        (written-cons ws new 0 (opWord saysO) (word tag-name a ∷ encode q) (omega arith)
-        (written-cons (set ws 0 (opWord saysO)) new 1 (word tag-name a) (encode q) (omega arith)
-        (c ∙ ap₂ (λ (p : ℕ) (k : ℕ). written (set (set ws 0 (opWord saysO)) 1 (word tag-name p)) 2 (take k (drop (at + 1) proof))) p k
-        ∙ ap (written (set (set ws 0 (opWord saysO)) 1 (word tag-name a)) 2) (at-part (at-sign (j .here))))))
+        (written-cons ws new 0 (op-word saysO) (word tag-name a ∷ encode q) (omega arith)
+        (written-cons (set ws 0 (op-word saysO)) new 1 (word tag-name a) (encode q) (omega arith)
+        (c ∙ ap₂ (λ (p : ℕ) (k : ℕ). written-at (set (set ws 0 (op-word saysO)) 1 (word tag-name p)) 2 (take k (drop (at + 1) proof))) p k
+        ∙ ap (written-at (set (set ws 0 (op-word saysO)) 1 (word tag-name a)) 2) (at-part (at-sign (j .here))))))
 
 -- ---- a Lam or a Ret
 
@@ -166,25 +166,25 @@ proposition-plain A (inr (inl q)) e = let k : proposition KindP ≡ true = ap pr
 proposition-plain A (inr (inr q)) e = let k : proposition KindT ≡ true = ap proposition (sym q) ∙ e in absurd (clash (cc))
 
 module _ (proof ws : List ℕ) (at next m end : ℕ) (o : Op) (a B : Term) (j : Pairs proof ws at next m a B) (r : Bool) (f : r ≡ proposition B) where
-  pub pair-unlike : not r ≡ true → Formed (paired at o a B) end ws ws (Refused condition-fails at)
-  pair-unlike t = refuses _ condition-fails at end ws (fail _ at _ (sym f ∙ not-true r t))
+  pub pair-unlike : not r ≡ true → TypeFormed (pair-type at o a B) end ws ws (Refused condition-fails at)
+  pair-unlike t = formed-refused _ condition-fails at end ws (fail _ at _ (sym f ∙ not-true r t))
 
   module _ (t : not r ≡ false) where
-    pair-type : (p : Result Term) → measured at (node o a B) ≡ p → paired at o a B ≡ p
-    pair-type p e = pass condition-fails at (sym f ∙ not-false r t) e
+    pair-measured : (p : Result Term) → measured at (node o a B) ≡ p → pair-type at o a B ≡ p
+    pair-measured p e = pass condition-fails at (sym f ∙ not-false r t) e
 
     pair-size : next - at + m ≡ size (node o a B)
     unfolding size
     pair-size = let e = j .next-is in let k = j .type-words in omega arith
 
-    pub pair-long : most-type-words < next - at + m → Formed (paired at o a B) end ws ws (Refused type-too-long at)
-    pair-long l = let z = pair-size in refuses _ type-too-long at end ws (pair-type _ (measured-long at _ (omega arith)))
+    pub pair-long : most-type-words < next - at + m → TypeFormed (pair-type at o a B) end ws ws (Refused type-too-long at)
+    pair-long l = let z = pair-size in formed-refused _ type-too-long at end ws (pair-measured _ (measured-long at _ (omega arith)))
 
     -- the type is copied out of the way, the head word and the first child are written, and the type behind them
-    pub pair-done : (head : ℕ) (aside mid new : List ℕ) → head ≡ opWord o → next - at + m ≤ most-type-words → front-words ≤ length ws → length aside ≡ length ws
-        → aside ≡ written ws most-type-words (take m (drop 0 ws))
-        → mid ≡ written (set aside 0 head) 1 (take (next - at - 1) (drop (at + 1) proof))
-        → new ≡ written mid (next - at) (take m (drop most-type-words mid)) → Formed (paired at o a B) end ws new (Typed (next - at + m) end)
+    pub pair-done : (head : ℕ) (aside mid new : List ℕ) → head ≡ op-word o → next - at + m ≤ most-type-words → front-words ≤ length ws → length aside ≡ length ws
+        → aside ≡ written-at ws most-type-words (take m (drop 0 ws))
+        → mid ≡ written-at (set aside 0 head) 1 (take (next - at - 1) (drop (at + 1) proof))
+        → new ≡ written-at mid (next - at) (take m (drop most-type-words mid)) → TypeFormed (pair-type at o a B) end ws new (Typed (next - at + m) end)
     unfolding size encode Plain
     pair-done head aside mid new h l w z ea em en =
         let e = j .next-is in
@@ -196,17 +196,17 @@ module _ (proof ws : List ℕ) (at next m end : ℕ) (o : Op) (a B : Term) (j : 
         let first-words : take (next - at - 1) (drop (at + 1) proof) ≡ encode a = let i : next - at - 1 ≡ size a = omega arith in
         ap (λ (i : ℕ). take i (drop (at + 1) proof)) i ∙ at-part (j .here) in
         let type-words : take m (drop 0 ws) ≡ encode B = ap (λ (i : ℕ). take i (drop 0 ws)) k ∙ type-part (j .type) in
-        let ea′ : aside ≡ written ws most-type-words (encode B) = ea ∙ ap (written ws most-type-words) type-words in
-        let em′ : mid ≡ written (set aside 0 (opWord o)) 1 (encode a) = em ∙ ap₂ (λ (v : ℕ) (l : List ℕ). written (set aside 0 v) 1 l) h first-words in
-        let ef : mid ≡ written aside 0 (opWord o ∷ encode a) = written-cons aside mid 0 (opWord o) (encode a) (omega arith) em′ in
+        let ea′ : aside ≡ written-at ws most-type-words (encode B) = ea ∙ ap (written-at ws most-type-words) type-words in
+        let em′ : mid ≡ written-at (set aside 0 (op-word o)) 1 (encode a) = em ∙ ap₂ (λ (v : ℕ) (l : List ℕ). written-at (set aside 0 v) 1 l) h first-words in
+        let ef : mid ≡ written-at aside 0 (op-word o ∷ encode a) = written-cons aside mid 0 (op-word o) (encode a) (omega arith) em′ in
         let back : take m (drop most-type-words mid) ≡ encode B = ap (take m)
-        (written-kept aside mid (opWord o ∷ encode a) 0 most-type-words (omega arith) ef (omega arith))
+        (written-kept aside mid (op-word o ∷ encode a) 0 most-type-words (omega arith) ef (omega arith))
         ∙ written-there ws aside (encode B) most-type-words m (omega arith) ea′ (k ∙ sym lb) in
         let i : next - at ≡ 1 + size a = omega arith in
-        writes _ (node o a B) (next - at + m) end ws aside new (pair-type _ (measured-fits at _ small)) s small
+        writes _ (node o a B) (next - at + m) end ws aside new (pair-measured _ (measured-fits at _ small)) s small
         (inl (j .here .plain, proposition-plain B (j .type .plain) (sym f ∙ not-false r t)))
         (written-kept ws aside (encode B) most-type-words front-words (omega arith) ea′ (omega arith))
-        (written-node aside mid new 0 (opWord o) (size a) (encode a) (encode B) (omega arith) (sym la) em′ (en ∙ ap₂ (written mid) i back))
+        (written-node aside mid new 0 (op-word o) (size a) (encode a) (encode B) (omega arith) (sym la) em′ (en ∙ ap₂ (written-at mid) i back))
 
 -- ---- a Bind
 
@@ -239,34 +239,34 @@ says-shape (var n) e = absurd (clash (cc))
 says-shape (sign n q) e = absurd (clash (cc))
 says-shape (node o a b) e = let q : o ≡ saysO = cc in record { left = a; right = b; is = ap (λ (o : Op). node o a b) q }
 
-says-first : (B : Term) → PlainType B → first B ≡ opWord saysO → Saying B
-says-first B (inl p) e = says-shape B (sym (shape-first B p) ∙ ap shape e)
-says-first B (inr (inl q)) e = let w : first KindP ≡ opWord saysO = ap first (sym q) ∙ e in absurd (omega arith)
-says-first B (inr (inr q)) e = let w : first KindT ≡ opWord saysO = ap first (sym q) ∙ e in absurd (omega arith)
+says-first : (B : Term) → PlainType B → first-word B ≡ op-word saysO → Saying B
+says-first B (inl p) e = says-shape B (sym (shape-first B p) ∙ ap word-shape e)
+says-first B (inr (inl q)) e = let w : first-word KindP ≡ op-word saysO = ap first-word (sym q) ∙ e in absurd (omega arith)
+says-first B (inr (inr q)) e = let w : first-word KindT ≡ op-word saysO = ap first-word (sym q) ∙ e in absurd (omega arith)
 
 -- a type that begins with the word Says and the principal's words
-said-by : (ws : List ℕ) (k : ℕ) (p B : Term) → TypeAt ws 0 B → Plain (raise 1 p) → take k ws ≡ opWord saysO ∷ encode (raise 1 p) → Said p B
+said-by : (ws : List ℕ) (k : ℕ) (p B : Term) → TypeAt ws 0 B → Plain (raise 1 p) → take k ws ≡ op-word saysO ∷ encode (raise 1 p) → Said p B
 unfolding encode InRange
 said-by ws k p B h r e =
-    let w : ws ≡ opWord saysO ∷ (encode (raise 1 p) ++ drop k ws) = sym (take-append-drop k ws) ∙ ap (λ (l : List ℕ). l ++ drop k ws) e in
+    let w : ws ≡ op-word saysO ∷ (encode (raise 1 p) ++ drop k ws) = sym (take-append-drop k ws) ∙ ap (λ (l : List ℕ). l ++ drop k ws) e in
     let s = says-first B (h .plain) (sym (words-head ws 0 B (h .rest) (h .words)) ∙ ap (λ (l : List ℕ). getD l 0 0) w) in
     let i : InRange (Says (s .left) (s .right)) = subst InRange (s .is) (in-range B (h .plain)) in
-    let b : encode (Says (s .left) (s .right)) ++ h .rest ≡ opWord saysO ∷ (encode (raise 1 p) ++ drop k ws) = ap (λ (t : Term). encode t ++ h .rest)
+    let b : encode (Says (s .left) (s .right)) ++ h .rest ≡ op-word saysO ∷ (encode (raise 1 p) ++ drop k ws) = ap (λ (t : Term). encode t ++ h .rest)
     (sym (s .is)) ∙ sym (h .words) ∙ w in
     let l : s .left ≡ raise 1 p = prefix-free (s .left) (raise 1 p) (encode (s .right) ++ h .rest) (drop k ws) (i .0) (plain-in-range (raise 1 p) r)
     (sym (append-assoc (encode (s .left)) (encode (s .right)) (h .rest)) ∙ tail-eq-of-cons-eq b) .0 in
     record { right = s .right; is = s .is ∙ ap (λ (t : Term). Says t (s .right)) l }
 
-said-words : (ws : List ℕ) (k : ℕ) (p B : Term) → TypeAt ws 0 B → k ≡ 1 + size p → Said p B → take k ws ≡ opWord saysO ∷ encode (raise 1 p)
+said-words : (ws : List ℕ) (k : ℕ) (p B : Term) → TypeAt ws 0 B → k ≡ 1 + size p → Said p B → take k ws ≡ op-word saysO ∷ encode (raise 1 p)
 unfolding encode
 said-words ws k p B h e s =
     let z : length (encode (raise 1 p)) ≡ size p = length-shift 0 (pos 1) p in
-    let n : length (opWord saysO ∷ encode (raise 1 p)) ≡ k = omega arith in
+    let n : length (op-word saysO ∷ encode (raise 1 p)) ≡ k = omega arith in
     ap (take k) (h .words ∙ ap (λ (t : Term). encode t ++ h .rest) (s .is)
-    ∙ ap (λ (l : List ℕ). opWord saysO ∷ l) (append-assoc (encode (raise 1 p)) (encode (s .right)) (h .rest)))
-    ∙ take-at (opWord saysO ∷ encode (raise 1 p)) (encode (s .right) ++ h .rest) k n
+    ∙ ap (λ (l : List ℕ). op-word saysO ∷ l) (append-assoc (encode (raise 1 p)) (encode (s .right)) (h .rest)))
+    ∙ take-at (op-word saysO ∷ encode (raise 1 p)) (encode (s .right) ++ h .rest) k n
 
-bound-unsaid : (at : ℕ) (p B : Term) → (Said p B → ⊥) → bound at p B ≡ refused condition-fails at
+bound-unsaid : (at : ℕ) (p B : Term) → (Said p B → ⊥) → bind-type at p B ≡ refused condition-fails at
 bound-unsaid at p (atom a) n = refl
 bound-unsaid at p (var k) n = refl
 bound-unsaid at p (sign k q) n = refl
@@ -278,8 +278,8 @@ bound-unsaid at p (node retO x y) n = refl
 bound-unsaid at p (node bindO x y) n = refl
 
 bound-said : (at : ℕ) (p B : Term) (s : Said p B) (o : Result Term)
-    → (require (eqb (occurs 0 (s .right)) 0) variable-escapes at >> measured at (Says p (lower (s .right)))) ≡ o → bound at p B ≡ o
-bound-said at p B s o e = ap (bound at p) (s .is) ∙ pass condition-fails at (same-yes refl) e
+    → (require (eqb (occurs 0 (s .right)) 0) variable-escapes at >> measured at (Says p (lower (s .right)))) ≡ o → bind-type at p B ≡ o
+bound-said at p B s o e = ap (bind-type at p) (s .is) ∙ pass condition-fails at (same-yes refl) e
 
 module _ (ws : List ℕ) (used at m end : ℕ) (p q B : Term) (j : Binds ws used m p q B) where
   -- the words before the principal's in the entry
@@ -301,8 +301,8 @@ module _ (ws : List ℕ) (used at m end : ℕ) (p q B : Term) (j : Binds ws used
       let d : length ((encode (raise 1 p) ++ encode q) ++ j .rest) ≡ length (encode (raise 1 p)) + length (encode q) + length (j .rest) = simp length-append in
       omega arith
 
-  unsaid : (Said p B → ⊥) → Formed (bound at p B) end ws ws (Refused condition-fails at)
-  unsaid n = refuses _ condition-fails at end ws (bound-unsaid at p B n)
+  unsaid : (Said p B → ⊥) → TypeFormed (bind-type at p B) end ws ws (Refused condition-fails at)
+  unsaid n = formed-refused _ condition-fails at end ws (bound-unsaid at p B n)
 
   module _ (said : ℕ) (e : said ≡ 1 + size p) where
     pub said-size : (s : Said p B) → m ≡ said + size (s .right)
@@ -313,22 +313,22 @@ module _ (ws : List ℕ) (used at m end : ℕ) (p q B : Term) (j : Binds ws used
         let k = j .type-words in
         omega arith
 
-    pub bind-short : m ≤ said → Formed (bound at p B) end ws ws (Refused condition-fails at)
+    pub bind-short : m ≤ said → TypeFormed (bind-type at p B) end ws ws (Refused condition-fails at)
     bind-short l = unsaid λ s. let z = said-size s in let k = size-pos (s .right) in omega arith
 
-    kept-part : take (length ws - used + entry-head + said - (length ws - used + entry-head)) (drop (length ws - used + entry-head) ws) ≡ opWord saysO ∷ encode
+    kept-part : take (length ws - used + entry-head + said - (length ws - used + entry-head)) (drop (length ws - used + entry-head) ws) ≡ op-word saysO ∷ encode
         (raise 1 p)
     kept-part =
         let h : ℕ = length ws - used in
         let i : length ws - used + entry-head + said - (length ws - used + entry-head) ≡ said = omega arith in
         let z : length (encode (raise 1 p)) ≡ size p = length-shift 0 (pos 1) p in
-        let n : length (opWord saysO ∷ encode (raise 1 p)) ≡ said = omega arith in
+        let n : length (op-word saysO ∷ encode (raise 1 p)) ≡ said = omega arith in
         ap₂ take i (sym (drop-drop entry-head h ws) ∙ ap (drop entry-head) (j .kept)
-        ∙ ap (λ (l : List ℕ). opWord saysO ∷ l) (append-assoc (encode (raise 1 p)) (encode q) (j .rest)))
-        ∙ take-at (opWord saysO ∷ encode (raise 1 p)) (encode q ++ j .rest) said n
+        ∙ ap (λ (l : List ℕ). op-word saysO ∷ l) (append-assoc (encode (raise 1 p)) (encode q) (j .rest)))
+        ∙ take-at (op-word saysO ∷ encode (raise 1 p)) (encode q ++ j .rest) said n
 
     pub bind-differs : (r : Bool) → not r ≡ true → (take said ws ≡ take (length ws - used + entry-head + said - (length ws - used + entry-head))
-        (drop (length ws - used + entry-head) ws) → r ≡ true) → Formed (bound at p B) end ws ws (Refused condition-fails at)
+        (drop (length ws - used + entry-head) ws) → r ≡ true) → TypeFormed (bind-type at p B) end ws ws (Refused condition-fails at)
     bind-differs r t f = unsaid λ s. denied r t (f (said-words ws said p B (j .type) e s ∙ sym kept-part))
 
     module _ (agree : take said ws ≡ take (length ws - used + entry-head + said - (length ws - used + entry-head)) (drop (length ws - used + entry-head) ws))
@@ -346,11 +346,11 @@ module _ (ws : List ℕ) (used at m end : ℕ) (p q B : Term) (j : Binds ws used
             subst (λ (k : ℕ). At ws k (saying .right)) i (at-right (subst (At ws 0) (saying .is) said-at))
 
         module _ (r : Option ℕ) (f : r ≡ absent (said + size (saying .right)) (occurs 0 (saying .right))) where
-          pub bind-present : r ≡ none → Formed (bound at p B) end ws ws (Refused variable-escapes at)
-          bind-present t = refuses _ variable-escapes at end ws (bound-said at p B saying _ (fail _ at _ (present-is (occurs 0 (saying .right)) _ (sym t ∙ f))))
+          pub bind-present : r ≡ none → TypeFormed (bind-type at p B) end ws ws (Refused variable-escapes at)
+          bind-present t = formed-refused _ variable-escapes at end ws (bound-said at p B saying _ (fail _ at _ (present-is (occurs 0 (saying .right)) _ (sym t ∙ f))))
 
           pub bind-absent : (k : ℕ) (new : List ℕ) (words : ℕ) → r ≡ some k → m ≤ most-type-words → Shifted B 0 (negsuc 0) ws 0 new words
-              → Formed (bound at p B) end ws new (Typed words end)
+              → TypeFormed (bind-type at p B) end ws new (Typed words end)
           unfolding shift
           bind-absent k new words t l h =
               let low : shift 0 (negsuc 0) B ≡ Says p (lower (saying .right)) = ap lower (saying .is)
@@ -362,4 +362,4 @@ module _ (ws : List ℕ) (used at m end : ℕ) (p q B : Term) (j : Binds ws used
               (bound-said at p B saying _ (pass variable-escapes at
               (eq-eqb (occurs 0 (saying .right)) 0 (absent-is (occurs 0 (saying .right)) _ k (sym t ∙ f) .never)) (measured-fits at _ small)))
               (h .count ∙ sym z) small (inl (subst Plain low (plain-lower 0 B (said-at .plain)))) refl
-              (h .words ∙ ap (λ (u : Term). written ws 0 (encode u)) low)
+              (h .words ∙ ap (λ (u : Term). written-at ws 0 (encode u)) low)

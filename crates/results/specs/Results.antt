@@ -4,13 +4,13 @@ use mathlib.Core.Path.{_≡_}
 use mathlib.Core.List.{List, _∷_, _++_}
 use lib.ListN.{length}
 use Rattle.logic.specs.Limits.{most-words, most-type-words}
-use Rattle.logic.specs.Term.{Op, saysO, piO, lamO, appO, retO, bindO, Term, sign, node, Says, Pi, opWord, encode, size}
+use Rattle.logic.specs.Term.{Op, saysO, piO, lamO, appO, retO, bindO, Term, sign, node, Says, Pi, op-word, encode, size}
 use Rattle.logic.specs.Move.{raise, fill}
 use Rattle.logic.specs.Reading.{Plain, PlainType}
 use Rattle.words.specs.Place.{At}
 use Rattle.words.specs.Typed.{TypeAt}
-use Rattle.rules.specs.Rule.{first, second}
-use Rattle.rules.specs.Scope.{tail, entry-head, entry}
+use Rattle.rules.specs.Rule.{first-child, second-child}
+use Rattle.rules.specs.Scope.{tail, entry-head, binder-entry}
 use Rattle.rules.specs.Form.{front-words}
 use Rattle.rules.specs.Enter.{keep-of}
 
@@ -54,7 +54,7 @@ pub record Pairable (proof ws : List ℕ) (at next m : ℕ) : Type 0 where
 -- its proof is kept at the end, with p raised
 pub record Binds (ws : List ℕ) (used m : ℕ) (p q B : Term) : Type 0 where
   pub rest : List ℕ
-  pub kept : tail used ws ≡ (entry-head + (1 + size p + size q)) ∷ 0 ∷ size q ∷ ((opWord saysO ∷ (encode (raise 1 p) ++ encode q)) ++ rest)
+  pub kept : tail used ws ≡ (entry-head + (1 + size p + size q)) ∷ 0 ∷ size q ∷ ((op-word saysO ∷ (encode (raise 1 p) ++ encode q)) ++ rest)
   pub principal : Plain (raise 1 p)
   pub type : TypeAt ws 0 B
   pub type-words : m ≡ size B
@@ -89,9 +89,9 @@ abbrev pub First : Op → List ℕ → (b A B : Term) → Type 0
 First saysO ws b A B = Unit {0}
 First piO ws b A B = Unit {0}
 First lamO ws b A B = Unit {0}
-First appO ws b A B = (A ≡ Pi (first A) (second A)) × TypeAt ws 0 A × (B ≡ first A → size (fill (second A) b) ≤ most-type-words → PlainType (fill (second A) b))
+First appO ws b A B = (A ≡ Pi (first-child A) (second-child A)) × TypeAt ws 0 A × (B ≡ first-child A → size (fill (second-child A) b) ≤ most-type-words → PlainType (fill (second-child A) b))
 First retO ws b A B = Unit {0}
-First bindO ws b A B = (A ≡ Says (first A) (second A)) × Plain (raise 1 (first A))
+First bindO ws b A B = (A ≡ Says (first-child A) (second-child A)) × Plain (raise 1 (first-child A))
 
 -- a node stands in the proof, the type B of its second child behind what is kept at the front of the workspace, and
 -- the entry of its binder, if any, at the end
@@ -104,7 +104,7 @@ pub record Forms (proof ws : List ℕ) (used at next n m end : ℕ) (o : Op) (a 
   pub second-words : m ≡ size B
   pub second-type : TypeAt ws (keep-of o n) B
   pub rest : List ℕ
-  pub kept : tail used ws ≡ entry o at a A ++ rest
+  pub kept : tail used ws ≡ binder-entry o at a A ++ rest
 
 pub record Formable (proof ws : List ℕ) (used at next n m end : ℕ) : Type 0 where
   pub o : Op

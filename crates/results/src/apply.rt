@@ -9,8 +9,8 @@ use rules::front::SMALL;
 use words::part::copy;
 use words::part::same;
 ghost use Rattle.logic.specs.Term.{Term};
-ghost use Rattle.rules.specs.Rule.{applied};
-ghost use Rattle.rules.specs.Form.{Formed};
+ghost use Rattle.rules.specs.Rule.{app-type};
+ghost use Rattle.rules.specs.Form.{TypeFormed};
 ghost use Rattle.results.specs.Results.{Applies, Appliable};
 
 // The type of an App, at the front of the workspace, or the refusal. The function's type is the first n words of the
@@ -26,7 +26,7 @@ pub fn apply(
 ) -> Derivation
     requires { ⌜ Appliable (now proof) (now ws) next n m end ⌝ }
     ensures { λ r. ⌜ ((d C e E : Term) → Applies (now (proof .entry)) (now (ws .entry)) next n m end d C e E
-        → Formed (applied at d C e E) end (now (ws .entry)) (now (ws .exit)) r) ⌝ }
+        → TypeFormed (app-type at d C e E) end (now (ws .entry)) (now (ws .exit)) r) ⌝ }
 {
     // behind the word Pi stand the domain's words: the argument's type is the domain exactly if its words stand there
     // too, for no term's words begin another's

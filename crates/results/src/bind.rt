@@ -8,8 +8,8 @@ use rules::derivation::Derivation;
 use rules::scope::ENTRY_HEAD;
 use words::part::same;
 ghost use Rattle.logic.specs.Term.{Term};
-ghost use Rattle.rules.specs.Rule.{bound};
-ghost use Rattle.rules.specs.Form.{Formed};
+ghost use Rattle.rules.specs.Rule.{bind-type};
+ghost use Rattle.rules.specs.Form.{TypeFormed};
 ghost use Rattle.results.specs.Results.{Binds, Bindable};
 
 // The type of a Bind, at the front of the workspace, or the refusal. The body's type is the first m words
@@ -17,7 +17,7 @@ ghost use Rattle.results.specs.Results.{Binds, Bindable};
 // which the `used` words at the end begin.
 pub fn bind(ws: &mut [u32], used: usize, at: usize, m: usize, end: usize) -> Derivation
     requires { ⌜ Bindable (now ws) used m ⌝ }
-    ensures { λ r. ⌜ ((p q B : Term) → Binds (now (ws .entry)) used m p q B → Formed (bound at p B) end (now (ws .entry)) (now (ws .exit)) r) ⌝ }
+    ensures { λ r. ⌜ ((p q B : Term) → Binds (now (ws .entry)) used m p q B → TypeFormed (bind-type at p B) end (now (ws .entry)) (now (ws .exit)) r) ⌝ }
 {
     let head = ws.len() - used;
     let total = ws[head] as usize;

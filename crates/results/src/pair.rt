@@ -7,9 +7,9 @@ use words::part::copy;
 use words::part::copy_within;
 use words::proposition::proposition;
 ghost use mathlib.Core.Path.{_≡_};
-ghost use Rattle.logic.specs.Term.{Op, Term, opWord};
-ghost use Rattle.rules.specs.Rule.{paired};
-ghost use Rattle.rules.specs.Form.{Formed};
+ghost use Rattle.logic.specs.Term.{Op, Term, op-word};
+ghost use Rattle.rules.specs.Rule.{pair-type};
+ghost use Rattle.rules.specs.Form.{TypeFormed};
 ghost use Rattle.results.specs.Results.{Pairs, Pairable};
 
 // The type that begins with the word `head`, at the front of the workspace, or the refusal. The first child stands in
@@ -24,8 +24,8 @@ pub fn pair(
     end: usize,
 ) -> Derivation
     requires { ⌜ Pairable (now proof) (now ws) at next m ⌝ }
-    ensures { λ r. ⌜ ((o : Op) → (a B : Term) → head ≡ opWord o → Pairs (now (proof .entry)) (now (ws .entry)) at next m a B
-        → Formed (paired at o a B) end (now (ws .entry)) (now (ws .exit)) r) ⌝ }
+    ensures { λ r. ⌜ ((o : Op) → (a B : Term) → head ≡ op-word o → Pairs (now (proof .entry)) (now (ws .entry)) at next m a B
+        → TypeFormed (pair-type at o a B) end (now (ws .entry)) (now (ws .exit)) r) ⌝ }
 {
     let fine = proposition(&ws[..], 0);
     if !fine {

@@ -12,7 +12,7 @@ use words::part::copy;
 ghost use Prim.Native.Nat.{ℕ};
 ghost use Rattle.logic.specs.Term.{Term};
 ghost use Rattle.rules.specs.Rule.{sign-type};
-ghost use Rattle.rules.specs.Form.{Formed};
+ghost use Rattle.rules.specs.Form.{TypeFormed};
 ghost use Rattle.results.specs.Results.{Signs, Signable};
 
 // The type of a Sign, at the front of the workspace, or the refusal. The Sign stands in the proof at `at`, up to `end`;
@@ -20,7 +20,7 @@ ghost use Rattle.results.specs.Results.{Signs, Signable};
 pub fn sign(proof: &[u32], ws: &mut [u32], at: usize, n: usize, end: usize) -> Derivation
     requires { ⌜ Signable (now proof) (now ws) at n end ⌝ }
     ensures { λ r. ⌜ ((a : ℕ) → (q s : Term) → Signs (now (proof .entry)) (now (ws .entry)) at n end a q s
-        → Formed (sign-type at a q s) end (now (ws .entry)) (now (ws .exit)) r) ⌝ }
+        → TypeFormed (sign-type at a q s) end (now (ws .entry)) (now (ws .exit)) r) ⌝ }
 {
     let fine = front_is(&ws[..], PROP);
     if !fine {

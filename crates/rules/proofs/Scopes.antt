@@ -15,8 +15,8 @@ use Rattle.logic.proofs.Basics.{clash}
 use Rattle.logic.proofs.Words.{encode-size}
 use Rattle.words.specs.Place.{At}
 use Rattle.words.proofs.Lists.{drop-take}
-use Rattle.rules.specs.Scope.{tail, scope-words, entry-head, Binders, no-binder, in-proof, in-workspace}
-use Rattle.rules.specs.Variable.{Found}
+use Rattle.rules.specs.Scope.{tail, scope-words, entry-head, Binders, no-entries, in-proof, in-workspace}
+use Rattle.rules.specs.Variable.{BinderFound}
 
 -- ---- the words of a scope
 
@@ -50,7 +50,7 @@ pub record Nearest (proof h : List ℕ) (Γ : List Term) (total start words : �
   pub here : At (cond (ltb entry-head total) h proof) (cond (ltb entry-head total) (total - words) start) type
 
 nearest : (proof h : List ℕ) (Γ : List Term) → 0 < length h → Binders proof h Γ → Nearest proof h Γ (getD h 0 0) (getD h 1 0) (getD h 2 0)
-nearest proof h Γ l no-binder = absurd (omega arith)
+nearest proof h Γ l no-entries = absurd (omega arith)
 nearest proof h Γ l (in-proof {A} a b) = record {
   type = A;
   known = refl;
@@ -102,24 +102,24 @@ entry-at proof ws floor kept Γ h l b =
 
 -- no entry is passed yet
 pub passed-none : {proof ws : List ℕ} {floor used : ℕ} {Γ : List Term} (n : ℕ) → floor ≤ used → Binders proof (scope-words floor used ws) Γ
-    → Found proof ws floor used (n - n) Γ used
+    → BinderFound proof ws floor used (n - n) Γ used
 passed-none {proof} {ws} {floor} {used} {Γ} n l b =
     let z : 0 ≡ n - n = omega arith in
     record { least = l; most = omega arith; binders = subst (λ (i : ℕ). Binders proof (scope-words floor used ws) (drop i Γ)) z b }
 
 -- n entries are passed
-pub passed-n : {proof ws : List ℕ} {floor used kept : ℕ} {Γ : List Term} (left n : ℕ) → left ≡ 0 → Found proof ws floor used (n - left) Γ kept
-    → Found proof ws floor used n Γ kept
-passed-n {proof} {ws} {floor} {used} {kept} {Γ} left n z f = let e : n - left ≡ n = omega arith in subst (λ (i : ℕ). Found proof ws floor used i Γ kept) e f
+pub passed-n : {proof ws : List ℕ} {floor used kept : ℕ} {Γ : List Term} (left n : ℕ) → left ≡ 0 → BinderFound proof ws floor used (n - left) Γ kept
+    → BinderFound proof ws floor used n Γ kept
+passed-n {proof} {ws} {floor} {used} {kept} {Γ} left n z f = let e : n - left ≡ n = omega arith in subst (λ (i : ℕ). BinderFound proof ws floor used i Γ kept) e f
 
 -- an entry ends within the words of the scope
-pub record Step (ws : List ℕ) (floor kept : ℕ) : Type 0 where
+pub record EntryStep (ws : List ℕ) (floor kept : ℕ) : Type 0 where
   pub some : 0 < getD ws (length ws - kept) 0
   pub inside : floor + getD ws (length ws - kept) 0 ≤ kept
 
-pub step : {proof ws : List ℕ} {floor used kept n : ℕ} {Γ : List Term} → floor < kept → used ≤ length ws → Found proof ws floor used n Γ kept
-    → Step ws floor kept
-step {proof} {ws} {floor} {used} {kept} {n} {Γ} h l f =
+pub entry-step : {proof ws : List ℕ} {floor used kept n : ℕ} {Γ : List Term} → floor < kept → used ≤ length ws → BinderFound proof ws floor used n Γ kept
+    → EntryStep ws floor kept
+entry-step {proof} {ws} {floor} {used} {kept} {n} {Γ} h l f =
     let most : kept ≤ used = f .most in
     let b : kept ≤ length ws = omega arith in
     let e = entry-at proof ws floor kept (drop n Γ) h b (f .binders) in
@@ -129,14 +129,14 @@ step {proof} {ws} {floor} {used} {kept} {n} {Γ} h l f =
     record { some = omega arith; inside = omega arith }
 
 -- an entry is passed
-pub passed : {proof ws : List ℕ} {floor used kept : ℕ} {Γ : List Term} (left n : ℕ) → floor < kept → used ≤ length ws → 0 < left → left ≤ n
-    → Found proof ws floor used (n - left) Γ kept → Found proof ws floor used (n - (left - 1)) Γ (kept - getD ws (length ws - kept) 0)
-passed {proof} {ws} {floor} {used} {kept} {Γ} left n h l z m f =
+pub passed-one : {proof ws : List ℕ} {floor used kept : ℕ} {Γ : List Term} (left n : ℕ) → floor < kept → used ≤ length ws → 0 < left → left ≤ n
+    → BinderFound proof ws floor used (n - left) Γ kept → BinderFound proof ws floor used (n - (left - 1)) Γ (kept - getD ws (length ws - kept) 0)
+passed-one {proof} {ws} {floor} {used} {kept} {Γ} left n h l z m f =
     let most : kept ≤ used = f .most in
     let b : kept ≤ length ws = omega arith in
     let e = entry-at proof ws floor kept (drop (n - left) Γ) h b (f .binders) in
     let t : ℕ = getD ws (length ws - kept) 0 in
-    let i : floor + getD ws (length ws - kept) 0 ≤ kept = step h l f .inside in
+    let i : floor + getD ws (length ws - kept) 0 ≤ kept = entry-step h l f .inside in
     let g : n - left + 1 ≡ n - (left - 1) = omega arith in
     record {
       least = omega arith;
@@ -146,13 +146,13 @@ passed {proof} {ws} {floor} {used} {kept} {Γ} left n h l z m f =
     }
 
 pub no-binders : (proof h : List ℕ) (Γ : List Term) → h ≡ [] → Binders proof h Γ → Γ ≡ []
-no-binders proof h Γ e no-binder = refl
+no-binders proof h Γ e no-entries = refl
 no-binders proof h Γ e (in-proof a b) = absurd (clash (cc))
 no-binders proof h Γ e (in-workspace x p one b) = absurd (clash (cc))
 
 -- no binder is left
-pub passed-all : {proof ws : List ℕ} {floor used kept : ℕ} {Γ : List Term} (left n : ℕ) → left ≤ n → kept ≤ floor → Found proof ws floor used (n - left) Γ kept
-    → Found proof ws floor used n Γ floor
+pub passed-all : {proof ws : List ℕ} {floor used kept : ℕ} {Γ : List Term} (left n : ℕ) → left ≤ n → kept ≤ floor → BinderFound proof ws floor used (n - left) Γ kept
+    → BinderFound proof ws floor used n Γ floor
 passed-all {proof} {ws} {floor} {used} {kept} {Γ} left n m h f =
     let least : floor ≤ kept = f .least in
     let e : kept ≡ floor = omega arith in
@@ -160,7 +160,7 @@ passed-all {proof} {ws} {floor} {used} {kept} {Γ} left n m h f =
     let k : n - left + left ≡ n = omega arith in
     let o : drop (n - left) Γ ≡ [] = no-binders proof (scope-words floor kept ws) (drop (n - left) Γ) (ap (λ (i : ℕ). take i (tail kept ws)) z) (f .binders) in
     let q : drop (n - left) Γ ≡ drop n Γ = o ∙ sym (drop-nil left) ∙ ap (drop left) (sym o) ∙ drop-drop left (n - left) Γ ∙ ap (λ (i : ℕ). drop i Γ) k in
-    subst (Found proof ws floor used n Γ) e (record {
+    subst (BinderFound proof ws floor used n Γ) e (record {
       least = least;
       most = f .most;
       binders = subst (Binders proof (scope-words floor kept ws)) q

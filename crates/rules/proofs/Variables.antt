@@ -19,19 +19,19 @@ use Rattle.logic.specs.Term.{Term, encode, size}
 use Rattle.logic.specs.Move.{shift, raise}
 use Rattle.logic.specs.Reading.{PlainType}
 use Rattle.logic.specs.Infer.{measured}
-use Rattle.words.specs.Place.{At, Is, written}
-use Rattle.words.specs.Lookup.{partOf}
+use Rattle.words.specs.Place.{At, Is, written-at}
+use Rattle.words.specs.Lookup.{part-of}
 use Rattle.moves.specs.Shift.{Shifted}
 use Rattle.words.proofs.Lists.{written-front}
 use Rattle.words.proofs.Places.{part-is}
 use Rattle.moves.proofs.Shifts.{size-shift, length-shift}
 use Rattle.rules.specs.Rule.{variable-type}
 use Rattle.rules.specs.Scope.{tail, scope-words, entry-head}
-use Rattle.rules.specs.Form.{Formed}
-use Rattle.rules.specs.Variable.{Found, Raises}
+use Rattle.rules.specs.Form.{TypeFormed}
+use Rattle.rules.specs.Variable.{BinderFound, Raises}
 use Rattle.rules.specs.declared.derivation.Derivation.{Derivation}
 use Rattle.rules.specs.declared.derivation.Derivation.the-variants.{Typed, Refused}
-use Rattle.rules.proofs.Fronts.{measured-fits, measured-long, refuses, writes}
+use Rattle.rules.proofs.Fronts.{measured-fits, measured-long, formed-refused, writes}
 use Rattle.words.proofs.Lists.{drop-take}
 use Rattle.rules.proofs.Scopes.{scope-length, entry-at, no-binders}
 
@@ -82,7 +82,7 @@ in-scope : (b : Bool) (proof ws : List ℕ) (floor kept i start : ℕ) (A : Term
 in-scope true proof ws floor kept i start A h = at-inside ws (length ws - kept) (kept - floor) i A h
 in-scope false proof ws floor kept i start A h = h
 
-pub entry-of : {proof ws : List ℕ} {floor used n kept : ℕ} {Γ : List Term} → used ≤ length ws → (kept ≡ floor → ⊥) → Found proof ws floor used n Γ kept
+pub entry-of : {proof ws : List ℕ} {floor used n kept : ℕ} {Γ : List Term} → used ≤ length ws → (kept ≡ floor → ⊥) → BinderFound proof ws floor used n Γ kept
     → Entry proof ws kept n Γ
 entry-of {proof} {ws} {floor} {used} {n} {kept} {Γ} l q f =
     let least : floor ≤ kept = f .least in
@@ -105,13 +105,13 @@ entry-of {proof} {ws} {floor} {used} {n} {kept} {Γ} l q f =
 
 -- ---- what the code answers
 
-pub variable-unbound : {proof ws : List ℕ} {floor used n kept : ℕ} {Γ : List Term} (at : ℕ) → kept ≡ floor → Found proof ws floor used n Γ kept
-    → Formed (variable-type Γ at n) (at + 1) ws ws (Refused unbound-variable at)
+pub variable-unbound : {proof ws : List ℕ} {floor used n kept : ℕ} {Γ : List Term} (at : ℕ) → kept ≡ floor → BinderFound proof ws floor used n Γ kept
+    → TypeFormed (variable-type Γ at n) (at + 1) ws ws (Refused unbound-variable at)
 variable-unbound {proof} {ws} {floor} {used} {n} {kept} {Γ} at e f =
     let z : kept - floor ≡ 0 = omega arith in
     let o : drop n Γ ≡ [] = no-binders proof (scope-words floor kept ws) (drop n Γ) (ap (λ (i : ℕ). take i (tail kept ws)) z) (f .binders) in
     let m : getElem? Γ n ≡ none = sym (first-of-rest Γ n) ∙ ap (λ (Δ : List Term). getElem? Δ 0) o in
-    refuses (variable-type Γ at n) unbound-variable at (at + 1) ws
+    formed-refused (variable-type Γ at n) unbound-variable at (at + 1) ws
     (ap (λ (o : Option Term). known unbound-variable at o >>= λ A. measured at (raise (suc n) A)) m)
 
 module _ {proof ws : List ℕ} {kept n : ℕ} {Γ : List Term} (at : ℕ) (e : Entry proof ws kept n Γ) where
@@ -121,15 +121,15 @@ module _ {proof ws : List ℕ} {kept n : ℕ} {Γ : List Term} (at : ℕ) (e : E
   raised-words : size (raise (suc n) (e .type)) ≡ getD ws (length ws - kept + 2) 0
   raised-words = size-shift 0 (pos (suc n)) (e .type) ∙ sym (e .type-words)
 
-  pub variable-long : most-type-words < getD ws (length ws - kept + 2) 0 → Formed (variable-type Γ at n) (at + 1) ws ws (Refused type-too-long at)
+  pub variable-long : most-type-words < getD ws (length ws - kept + 2) 0 → TypeFormed (variable-type Γ at n) (at + 1) ws ws (Refused type-too-long at)
   variable-long l =
       let r : size (raise (suc n) (e .type)) ≡ getD ws (length ws - kept + 2) 0 = raised-words in
-      refuses (variable-type Γ at n) type-too-long at (at + 1) ws (variable-is ∙ measured-long at (raise (suc n) (e .type)) (omega arith))
+      formed-refused (variable-type Γ at n) type-too-long at (at + 1) ws (variable-is ∙ measured-long at (raise (suc n) (e .type)) (omega arith))
 
   -- what is looked up is the type's words
   pub looked-up : {from : ℕ} {part : List ℕ} → from ≡ cond (ltb entry-head (getD ws (length ws - kept) 0))
       (length ws - kept + (getD ws (length ws - kept) 0 - getD ws (length ws - kept + 2) 0)) (getD ws (length ws - kept + 1) 0)
-      → part ≡ partOf proof ws (ltb entry-head (getD ws (length ws - kept) 0)) from (from + getD ws (length ws - kept + 2) 0) → Is part (e .type)
+      → part ≡ part-of proof ws (ltb entry-head (getD ws (length ws - kept) 0)) from (from + getD ws (length ws - kept + 2) 0) → Is part (e .type)
   looked-up {from} {part} f p =
       let b : Bool = ltb entry-head (getD ws (length ws - kept) 0) in
       let h : At (cond b ws proof) from (e .type) = subst (λ (i : ℕ). At (cond b ws proof) i (e .type)) (sym f) (e .here) in
@@ -137,24 +137,24 @@ module _ {proof ws : List ℕ} {kept n : ℕ} {Γ : List Term} (at : ℕ) (e : E
       { plain = h .plain; words = part-is (from + getD ws (length ws - kept + 2) 0) h (ap (λ (k : ℕ). from + k) (e .type-words)) })
 
   pub variable-found : {part new : List ℕ} {r : Derivation} → getD ws (length ws - kept + 2) 0 ≤ most-type-words → Is part (e .type)
-      → ((A : Term) → Is part A → PlainType (raise (suc n) A) → Formed (ok (raise (suc n) A)) (at + 1) ws new r) → Raises Γ n
-      → Formed (variable-type Γ at n) (at + 1) ws new r
+      → ((A : Term) → Is part A → PlainType (raise (suc n) A) → TypeFormed (ok (raise (suc n) A)) (at + 1) ws new r) → Raises Γ n
+      → TypeFormed (variable-type Γ at n) (at + 1) ws new r
   variable-found {part} {new} {r} l i f h =
       let A : Term = e .type in
       let s : size (raise (suc n) (e .type)) ≡ getD ws (length ws - kept + 2) 0 = raised-words in
       let t : getD ws (length ws - kept + 2) 0 ≡ size A = e .type-words in
-      subst (λ (o : Result Term). Formed o (at + 1) ws new r) (sym (variable-is ∙ measured-fits at (raise (suc n) A) (omega arith)))
+      subst (λ (o : Result Term). TypeFormed o (at + 1) ws new r) (sym (variable-is ∙ measured-fits at (raise (suc n) A) (omega arith)))
       (f A i (h A (e .known) (omega arith)))
 
 -- the raised type's words were written at the front
 pub raised-front : {z : ℤ} {ws part zeros raised new : List ℕ} {n w : ℕ} (at : ℕ) (A : Term) → size A ≤ most-type-words → z ≡ pos (suc n) → Is part A
-    → ((t : Term) → Is part t → Shifted t 0 z zeros 0 raised w) → new ≡ written ws 0 (take w raised) → PlainType (raise (suc n) A)
-    → Formed (ok (raise (suc n) A)) (at + 1) ws new (Typed w (at + 1))
+    → ((t : Term) → Is part t → Shifted t 0 z zeros 0 raised w) → new ≡ written-at ws 0 (take w raised) → PlainType (raise (suc n) A)
+    → TypeFormed (ok (raise (suc n) A)) (at + 1) ws new (Typed w (at + 1))
 raised-front {z} {ws} {part} {zeros} {raised} {new} {n} {w} at A l y i f c h =
     let s = f A i in
     let r : size (raise (suc n) A) ≡ size A = size-shift 0 (pos (suc n)) A in
     writes (ok (raise (suc n) A)) (raise (suc n) A) w (at + 1) ws ws new refl (s .count ∙ sym r) (omega arith) h refl
-    (c ∙ ap (written ws 0) (written-front zeros raised (encode (shift 0 z A)) w (s .words) (s .count ∙ sym (length-shift 0 z A))
+    (c ∙ ap (written-at ws 0) (written-front zeros raised (encode (shift 0 z A)) w (s .words) (s .count ∙ sym (length-shift 0 z A))
     ∙ ap (λ (v : ℤ). encode (shift 0 v A)) y))
 
 -- ---- the machine's sum of a variable's number and a small amount

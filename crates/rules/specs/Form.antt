@@ -23,8 +23,8 @@ verdict-answer Passed = ok tt
 verdict-answer (Fault m p) = refused m p
 
 -- the words of the type that came out, of a term that ends at `end`
-abbrev pub ended : Result Term → ℕ → Result (ℕ × ℕ)
-ended o end = o >>= λ A. ok (size A, end)
+abbrev pub type-and-end : Result Term → ℕ → Result (ℕ × ℕ)
+type-and-end o end = o >>= λ A. ok (size A, end)
 
 -- the type that came out stands at the front of the workspace
 abbrev pub Front : Result Term → List ℕ → Type 0
@@ -36,8 +36,8 @@ abbrev pub front-words : ℕ
 front-words = most-type-words + most-type-words
 
 -- a type is at the front, and only the front was written
-pub record Formed (o : Result Term) (end : ℕ) (old new : List ℕ) (r : Derivation) : Type 0 where
-  pub answer : derivation-answer r ≡ ended o end
+pub record TypeFormed (o : Result Term) (end : ℕ) (old new : List ℕ) (r : Derivation) : Type 0 where
+  pub answer : derivation-answer r ≡ type-and-end o end
   pub front : Front o new
   pub rest : drop front-words new ≡ drop front-words old
 

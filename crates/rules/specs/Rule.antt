@@ -23,17 +23,17 @@ abbrev pub sign-type : ℕ → ℕ → Term → Term → Result Term
 sign-type at n q s = condition at (same s P) >> measured at (Says (Name n) q)
 
 -- the second child of a term
-abbrev pub second : Term → Term
-second (atom a) = atom a
-second (var n) = var n
-second (sign n q) = q
-second (node o a b) = b
+abbrev pub second-child : Term → Term
+second-child (atom a) = atom a
+second-child (var n) = var n
+second-child (sign n q) = q
+second-child (node o a b) = b
 
-abbrev pub first : Term → Term
-first (atom a) = atom a
-first (var n) = var n
-first (sign n q) = q
-first (node o a b) = a
+abbrev pub first-child : Term → Term
+first-child (atom a) = atom a
+first-child (var n) = var n
+first-child (sign n q) = q
+first-child (node o a b) = a
 
 -- the test on the first child's type A
 unfoldable pub ready : Op → ℕ → Term → Result (Unit {0})
@@ -51,27 +51,27 @@ within piO a A Γ = a ∷ Γ
 within lamO a A Γ = a ∷ Γ
 within appO a A Γ = Γ
 within retO a A Γ = Γ
-within bindO a A Γ = second A ∷ Γ
+within bindO a A Γ = second-child A ∷ Γ
 
 -- the result of Lam and Ret: a node of the first child and the second's type, which is a proposition
-abbrev pub paired : ℕ → Op → Term → Term → Result Term
-paired at o a B = condition at (proposition B) >> measured at (node o a B)
+abbrev pub pair-type : ℕ → Op → Term → Term → Result Term
+pair-type at o a B = condition at (proposition B) >> measured at (node o a B)
 
 -- the result of an App, whose function has the type Pi d C and whose argument b the type B
-abbrev pub applied : ℕ → Term → Term → Term → Term → Result Term
-applied at d C b B = require (same B d) argument-mismatch at >> measured at (fill C b)
+abbrev pub app-type : ℕ → Term → Term → Term → Term → Result Term
+app-type at d C b B = require (same B d) argument-mismatch at >> measured at (fill C b)
 
 -- the result of a Bind, whose proof is said by a and whose body has the type B
-abbrev pub bound : ℕ → Term → Term → Result Term
-bound at a B =
+abbrev pub bind-type : ℕ → Term → Term → Result Term
+bind-type at a B =
     known condition-fails at (parts saysO B) >>= λ r. condition at (same (r .left) (raise 1 a)) >>
     (require (eqb (occurs 0 (r .right)) 0) variable-escapes at >> measured at (Says a (lower (r .right))))
 
 -- the node's type, from its children and their types
-unfoldable pub formed : Op → ℕ → (a b A B : Term) → Result Term
-formed saysO at a b A B = condition at (same B P) >> measured at P
-formed piO at a b A B = condition at (body B) >> measured at B
-formed lamO at a b A B = paired at piO a B
-formed appO at a b A B = applied at (first A) (second A) b B
-formed retO at a b A B = paired at saysO a B
-formed bindO at a b A B = bound at (first A) B
+unfoldable pub node-type : Op → ℕ → (a b A B : Term) → Result Term
+node-type saysO at a b A B = condition at (same B P) >> measured at P
+node-type piO at a b A B = condition at (body B) >> measured at B
+node-type lamO at a b A B = pair-type at piO a B
+node-type appO at a b A B = app-type at (first-child A) (second-child A) b B
+node-type retO at a b A B = pair-type at saysO a B
+node-type bindO at a b A B = bind-type at (first-child A) B

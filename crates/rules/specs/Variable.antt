@@ -10,7 +10,7 @@ use Rattle.logic.specs.Term.{Term, size}
 use Rattle.logic.specs.Move.{raise}
 use Rattle.logic.specs.Reading.{PlainType}
 use Rattle.words.specs.Place.{Is}
-use Rattle.words.specs.Lookup.{partOf, Within}
+use Rattle.words.specs.Lookup.{part-of, PartWithin}
 use Rattle.rules.specs.Scope.{scope-words, Binders}
 use Rattle.rules.specs.Form.{front-words}
 
@@ -23,7 +23,7 @@ pub record Walkable (ws : List ℕ) (floor used : ℕ) : Type 0 where
   pub inside : used ≤ length ws
 
 -- from the answer on, the words kept are those of the binders from variable n on
-pub record Found (proof ws : List ℕ) (floor used n : ℕ) (Γ : List Term) (r : ℕ) : Type 0 where
+pub record BinderFound (proof ws : List ℕ) (floor used n : ℕ) (Γ : List Term) (r : ℕ) : Type 0 where
   pub least : floor ≤ r
   pub most : r ≤ used
   pub binders : Binders proof (scope-words floor r ws) (drop n Γ)
@@ -45,8 +45,8 @@ Raises Γ n = (A : Term) → getElem? Γ n ≡ some A → size A ≤ most-type-w
 -- the words of a binder's type, in the proof or in the workspace, and room for them
 pub record Raisable (proof ws : List ℕ) (inHeld : Bool) (from words n at room : ℕ) : Type 0 where
   pub type : Term
-  pub part : Is (partOf proof ws inHeld from (from + words)) type
-  pub inside : Within proof ws inHeld from (from + words)
+  pub part : Is (part-of proof ws inHeld from (from + words)) type
+  pub inside : PartWithin proof ws inHeld from (from + words)
   pub type-words : words ≡ size type
   pub small : words ≤ most-type-words
   pub fits : words ≤ room

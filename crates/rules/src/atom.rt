@@ -20,16 +20,16 @@ ghost use mathlib.Core.Path.{_≡_};
 ghost use mathlib.Core.List.{List};
 ghost use mathlib.Core.Option.{some};
 ghost use Prim.Native.Nat.{_+_};
-ghost use Rattle.logic.specs.Term.{Atom, constA, Term, atomWord, tag-of};
+ghost use Rattle.logic.specs.Term.{Atom, constA, Term, atom-word, tag-of};
 ghost use Rattle.logic.specs.Reading.{PlainAtom};
 ghost use Rattle.rules.specs.Rule.{atom-type};
 ghost use Rattle.rules.specs.Scope.{Declared};
-ghost use Rattle.rules.specs.Form.{Formed};
+ghost use Rattle.rules.specs.Form.{TypeFormed};
 ghost use Rattle.rules.specs.Atoms.{sort-of, Constants};
 
 // The word of the type of an atom that is no constant, by the atom's tag.
 fn sort(tag: u32) -> u32
-    ensures { λ r. ⌜ ((a b : Atom) → PlainAtom a → tag ≡ tag-of (atomWord a) → sort-of a ≡ some b → r ≡ atomWord b) ⌝ }
+    ensures { λ r. ⌜ ((a b : Atom) → PlainAtom a → tag ≡ tag-of (atom-word a) → sort-of a ≡ some b → r ≡ atom-word b) ⌝ }
 {
     let prop = tag == TAG_PROP;
     if prop {
@@ -55,7 +55,7 @@ fn sort(tag: u32) -> u32
 fn constant(sig: &[u32], table: &[u32], ws: &mut [u32], n: usize, at: usize) -> Derivation
     requires { ⌜ Constants (now sig) (now table) (now ws) at ⌝ }
     ensures { λ r. ⌜ ((Σ : List Term) → Declared (now (sig .entry)) (now (table .entry)) Σ
-        → Formed (atom-type Σ at (constA n)) (at + 1) (now (ws .entry)) (now (ws .exit)) r) ⌝ }
+        → TypeFormed (atom-type Σ at (constA n)) (at + 1) (now (ws .entry)) (now (ws .exit)) r) ⌝ }
 {
     if table.len() <= n {
         return Derivation::Refused {
@@ -78,8 +78,8 @@ fn constant(sig: &[u32], table: &[u32], ws: &mut [u32], n: usize, at: usize) -> 
 // The type of an atom's word.
 pub fn atom(sig: &[u32], table: &[u32], ws: &mut [u32], word: u32, at: usize) -> Derivation
     requires { ⌜ Constants (now sig) (now table) (now ws) at ⌝ }
-    ensures { λ r. ⌜ ((Σ : List Term) → (a : Atom) → Declared (now (sig .entry)) (now (table .entry)) Σ → word ≡ atomWord a → PlainAtom a
-        → Formed (atom-type Σ at a) (at + 1) (now (ws .entry)) (now (ws .exit)) r) ⌝ }
+    ensures { λ r. ⌜ ((Σ : List Term) → (a : Atom) → Declared (now (sig .entry)) (now (table .entry)) Σ → word ≡ atom-word a → PlainAtom a
+        → TypeFormed (atom-type Σ at a) (at + 1) (now (ws .entry)) (now (ws .exit)) r) ⌝ }
 {
     let tag = tag_of(word);
     if tag == TAG_CONSTANT {

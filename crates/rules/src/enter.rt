@@ -21,14 +21,13 @@ ghost use mathlib.Core.List.{[], _∷_};
 ghost use Prim.Native.Nat.{ℕ, _+_, _-_, _≤_};
 ghost use lib.ListN.{length};
 ghost use Rattle.logic.specs.Limits.{most-words};
-ghost use Rattle.logic.specs.Term.{Op, bindO, Term, Says, size};
+ghost use Rattle.logic.specs.Term.{Op, bindO, Term, Says, size, first-word};
 ghost use Rattle.logic.specs.Reading.{PlainType};
 ghost use Rattle.logic.specs.Infer.{domain as isDomain};
-ghost use Rattle.logic.proofs.Words.{first};
-ghost use Rattle.words.specs.Place.{written};
+ghost use Rattle.words.specs.Place.{written-at};
 ghost use Rattle.words.specs.Typed.{TypeAt};
-ghost use Rattle.rules.specs.Scope.{entry-head, entry};
-ghost use Rattle.rules.specs.Enter.{Enters, Enterable, Entering, Kept, Keepable};
+ghost use Rattle.rules.specs.Scope.{entry-head, binder-entry};
+ghost use Rattle.rules.specs.Enter.{Enters, NodeEnterable, Entering, Kept, Keepable};
 
 // How many words at the front and at the end of the workspace are kept while the second child is derived;
 // or the number with which the test fails.
@@ -39,7 +38,7 @@ pub enum Entered {
 
 // Whether a type that begins with this word is one that a domain may have: T, P or KindP, which have no other word.
 fn domain(word: u32) -> bool
-    ensures { λ r. ⌜ ((A : Term) → PlainType A → word ≡ first A → r ≡ isDomain A) ⌝ }
+    ensures { λ r. ⌜ ((A : Term) → PlainType A → word ≡ first-word A → r ≡ isDomain A) ⌝ }
 {
     if word == TYPE {
         return true;
@@ -53,7 +52,7 @@ fn domain(word: u32) -> bool
 // Writes the first words of an entry.
 fn put_head(ws: &mut [u32], head: usize, total: usize, start: usize, size: usize)
     requires { ⌜ (head + entry-head ≤ length (now ws)) × (total ≤ most-words) × (start ≤ most-words) × (size ≤ most-words) ⌝ }
-    ensures { λ _. ⌜ now (ws .exit) ≡ written (now (ws .entry)) head (total ∷ start ∷ size ∷ []) ⌝ }
+    ensures { λ _. ⌜ now (ws .exit) ≡ written-at (now (ws .entry)) head (total ∷ start ∷ size ∷ []) ⌝ }
 {
     ws[head] = total as u32;
     ws[head + 1] = start as u32;
@@ -77,7 +76,7 @@ fn keep_domain(ws: &mut [u32], used: usize, start: usize, next: usize) -> usize
 fn keep_says(ws: &mut [u32], used: usize, n: usize) -> usize
     requires { ⌜ Keepable (now ws) used n ⌝ }
     ensures { λ r. ⌜ ((at : ℕ) → (a p q : Term) → TypeAt (now (ws .entry)) 0 (Says p q) → n ≡ size (Says p q)
-        → Kept (entry bindO at a (Says p q)) used (now (ws .entry)) (now (ws .exit)) r) ⌝ }
+        → Kept (binder-entry bindO at a (Says p q)) used (now (ws .entry)) (now (ws .exit)) r) ⌝ }
 {
     let kept = used + (ENTRY_HEAD + n);
     let head = ws.len() - kept;
@@ -98,7 +97,7 @@ pub fn enter(
     next: usize,
     n: usize,
 ) -> Entered
-    requires { ⌜ Enterable (now proof) (now ws) used at next n ⌝ }
+    requires { ⌜ NodeEnterable (now proof) (now ws) used at next n ⌝ }
     ensures { λ r. ⌜ ((o : Op) → (a A : Term) → Enters (now (proof .entry)) (now (ws .entry)) at next n o a A
         → Entering o at a A n used (now (ws .entry)) (now (ws .exit)) r) ⌝ }
 {

@@ -15,11 +15,11 @@ ghost use Rattle.logic.specs.Term.{Term};
 ghost use Rattle.logic.specs.Move.{raise};
 ghost use Rattle.logic.specs.Reading.{PlainType};
 ghost use Rattle.words.specs.Place.{Is};
-ghost use Rattle.words.specs.Lookup.{partOf};
+ghost use Rattle.words.specs.Lookup.{part-of};
 ghost use Rattle.rules.specs.Rule.{variable-type};
 ghost use Rattle.rules.specs.Scope.{scope-words, Binders};
-ghost use Rattle.rules.specs.Form.{Formed};
-ghost use Rattle.rules.specs.Variable.{Walkable, Found, InScope, Raises, Raisable};
+ghost use Rattle.rules.specs.Form.{TypeFormed};
+ghost use Rattle.rules.specs.Variable.{Walkable, BinderFound, InScope, Raises, Raisable};
 
 // The first words of an entry: how many words the entry has, where the type stands in the proof, and how many words the
 // type has. Where the entry has more, the type stands at its end.
@@ -29,7 +29,7 @@ pub const ENTRY_HEAD: usize = 3;
 fn binder(ws: &[u32], floor: usize, used: usize, n: u32) -> usize
     requires { ⌜ Walkable (now ws) floor used ⌝ }
     ensures { λ r. ⌜ ((proof : List ℕ) → (Γ : List Term) → Binders proof (scope-words floor used (now (ws .entry))) Γ
-        → Found proof (now (ws .entry)) floor used n Γ r) ⌝ }
+        → BinderFound proof (now (ws .entry)) floor used n Γ r) ⌝ }
 {
     let mut kept = used;
     let mut left = n;
@@ -56,8 +56,8 @@ fn raised(
     buffer: &mut [u32],
 ) -> Derivation
     requires { ⌜ Raisable (now proof) (now ws) «in_workspace» from size n at (length (now buffer)) ⌝ }
-    ensures { λ r. ⌜ ((A : Term) → Is (partOf (now (proof .entry)) (now (ws .entry)) «in_workspace» from (from + size)) A
-        → PlainType (raise (suc n) A) → Formed (ok (raise (suc n) A)) (at + 1) (now (ws .entry)) (now (ws .exit)) r) ⌝ }
+    ensures { λ r. ⌜ ((A : Term) → Is (part-of (now (proof .entry)) (now (ws .entry)) «in_workspace» from (from + size)) A
+        → PlainType (raise (suc n) A) → TypeFormed (ok (raise (suc n) A)) (at + 1) (now (ws .entry)) (now (ws .exit)) r) ⌝ }
 {
     // "A binder's type stands either in the proof's words or in the workspace"
     let part = lookup(proof, &ws[..], in_workspace, from, from + size);
@@ -77,7 +77,7 @@ pub fn variable(
 ) -> Derivation
     requires { ⌜ InScope (now proof) (now ws) floor used n at ⌝ }
     ensures { λ r. ⌜ ((Γ : List Term) → Binders (now (proof .entry)) (scope-words floor used (now (ws .entry))) Γ → Raises Γ n
-        → Formed (variable-type Γ at n) (at + 1) (now (ws .entry)) (now (ws .exit)) r) ⌝ }
+        → TypeFormed (variable-type Γ at n) (at + 1) (now (ws .entry)) (now (ws .exit)) r) ⌝ }
 {
     let kept = binder(&ws[..], floor, used, n);
     if kept == floor {

@@ -13,7 +13,8 @@ use Rattle.logic.specs.Limits.{most-operations}
 use Rattle.logic.specs.Term.{Term, P, S, Pi, encode}
 use Rattle.logic.specs.SignatureList.{permit, receipt-of, is-type, operations, operations-test}
 use Rattle.logic.proofs.Results.{true-both}
-use Rattle.logic.proofs.Words.{InRange, plain-in-range}
+use Rattle.logic.proofs.Words.{plain-in-range}
+use Rattle.logic.specs.Reading.{InRange}
 use Rattle.words.proofs.Places.{part-is}
 use Rattle.words.proofs.Sames.{same-types}
 use Rattle.rules.specs.Scope.{Declared}
@@ -21,8 +22,8 @@ use Rattle.rules.proofs.Atoms.{no-element, ConstantAt}
 
 -- ---- one constant
 
-pub no-constant : {sig table : List ℕ} {Σ : List Term} (i : ℕ) (A : Term) → length table ≤ i → Declared sig table Σ → false ≡ is-type A (getElem? Σ i)
-no-constant {Σ} i A l d = sym (ap (is-type A) (no-element Σ i (omega (arith, d .count))))
+pub no-such-constant : {sig table : List ℕ} {Σ : List Term} (i : ℕ) (A : Term) → length table ≤ i → Declared sig table Σ → false ≡ is-type A (getElem? Σ i)
+no-such-constant {Σ} i A l d = sym (ap (is-type A) (no-element Σ i (omega (arith, d .count))))
 
 -- the words of its type, from its place up to `end`, were compared with those of A
 pub compared : {sig table : List ℕ} {Σ : List Term} {i : ℕ} (C : ConstantAt sig table i Σ) (A : Term) (words : List ℕ) (end : ℕ) (r : Bool)
@@ -53,8 +54,8 @@ module _ (Σ : List Term) where
   ]
 
   module _ (n : ℕ) where
-    pub no-operation : n < 1 → false ≡ operations-test Σ n
-    no-operation l = sym (ap (λ (b : Bool). b && leb n most-operations && operations Σ n) (lt-leb 1 n l))
+    pub too-few-operations : n < 1 → false ≡ operations-test Σ n
+    too-few-operations l = sym (ap (λ (b : Bool). b && leb n most-operations && operations Σ n) (lt-leb 1 n l))
 
     pub too-many-operations : most-operations < n → false ≡ operations-test Σ n
     too-many-operations l =

@@ -17,8 +17,8 @@ ghost use mathlib.Core.List.{List};
 ghost use lib.ListN.{drop};
 ghost use Rattle.logic.specs.Term.{Term};
 ghost use Rattle.logic.specs.SignatureList.{signature, constant as constant-type};
-ghost use Rattle.typing.specs.Check.{Constants-of};
-ghost use Rattle.signature.specs.Listing.{constant-at, passed, Listable, Read-as, Readable};
+ghost use Rattle.typing.specs.Check.{ConstantsOf};
+ghost use Rattle.signature.specs.Listing.{constant-at, succeeded, Listable, SignatureRead, SignatureReadable};
 
 // How many constants a signature has that is accepted, or the place of the first bad constant's length word.
 pub enum Listed {
@@ -28,7 +28,7 @@ pub enum Listed {
 
 // Whether words are those of a permit's type, Pi S P, or of a receipt's, Pi S Pi S P, which pass behind any constants.
 fn common(words: &[u32]) -> bool
-    ensures { λ r. ⌜ ((Σ : List Term) → r ≡ true → passed (constant-type Σ (now (words .entry))) ≡ true) ⌝ }
+    ensures { λ r. ⌜ ((Σ : List Term) → r ≡ true → succeeded (constant-type Σ (now (words .entry))) ≡ true) ⌝ }
 {
     let permit = [PI, STRING, PROP];
     let permitted = same(words, &permit);
@@ -43,7 +43,7 @@ fn common(words: &[u32]) -> bool
 // type that passes the check with type KindP.
 fn constant(sig: &[u32], table: &[u32], at: usize, ws: &mut [u32]) -> bool
     requires { ⌜ Listable (now sig) (now table) (now ws) at ⌝ }
-    ensures { λ r. ⌜ ((Σ : List Term) → Constants-of (now (sig .entry)) (now (table .entry)) Σ → r ≡ constant-at Σ (drop at (now (sig .entry)))) ⌝ }
+    ensures { λ r. ⌜ ((Σ : List Term) → ConstantsOf (now (sig .entry)) (now (table .entry)) Σ → r ≡ constant-at Σ (drop at (now (sig .entry)))) ⌝ }
 {
     let n = sig[at] as usize;
     if n < 1 {
@@ -79,8 +79,8 @@ fn constant(sig: &[u32], table: &[u32], at: usize, ws: &mut [u32]) -> bool
 
 // Reads the signature list: the table gets the place of each constant's type.
 pub fn read_signature(sig: &[u32], table: &mut [u32], ws: &mut [u32]) -> Listed
-    requires { ⌜ Readable (now table) (now ws) ⌝ }
-    ensures { λ r. ⌜ Read-as (signature (now (sig .entry))) (now (sig .entry)) (now (table .exit)) r ⌝ }
+    requires { ⌜ SignatureReadable (now table) (now ws) ⌝ }
+    ensures { λ r. ⌜ SignatureRead (signature (now (sig .entry))) (now (sig .entry)) (now (table .exit)) r ⌝ }
 {
     let mut at: usize = 0;
     let mut count: usize = 0;

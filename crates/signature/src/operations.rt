@@ -9,7 +9,7 @@ ghost use mathlib.Core.List.{List};
 ghost use lib.ListN.{getElem?};
 ghost use Rattle.logic.specs.Term.{Term, encode};
 ghost use Rattle.logic.specs.SignatureList.{is-type, operations-test};
-ghost use Rattle.logic.proofs.Words.{InRange};
+ghost use Rattle.logic.specs.Reading.{InRange};
 ghost use Rattle.rules.specs.Scope.{Declared};
 ghost use Rattle.signature.specs.Listing.{Declares};
 

@@ -14,33 +14,33 @@ use Rattle.rules.proofs.Fronts.{typed-by, refused-by}
 use Rattle.rules.specs.declared.derivation.Derivation.{Derivation}
 use Rattle.rules.specs.declared.derivation.Derivation.the-variants.{Typed, Refused}
 use Rattle.typing.specs.Check.{typed-term, Judged}
-use Rattle.signature.specs.Listing.{Read-as}
+use Rattle.signature.specs.Listing.{SignatureRead}
 use Rattle.signature.specs.declared.list.Listed.{Listed}
 use Rattle.signature.specs.declared.list.Listed.the-variants.{Bad}
-use Rattle.signature.proofs.Accepted.{list-refused, Constants-read}
-use Rattle.timed.specs.Timed.{tested}
+use Rattle.signature.proofs.Accepted.{list-refused, ConstantsRead}
+use Rattle.timed.specs.Timed.{timed-tests}
 
 module _ (workspace : ℕ) (sig term : List ℕ) where
   abbrev rest : Result (List Term) → Result Term
   rest x = x >>= λ Σ. typed-term Σ most-words most-nesting term
 
-  pub short : workspace < least-workspace → workspace-short ≡ number-of (tested workspace sig term)
+  pub short : workspace < least-workspace → workspace-short ≡ number-of (timed-tests workspace sig term)
   short h = sym (ap (λ (b : Bool). number-of (require b workspace-short 0 >> rest (signature sig))) (lt-leb least-workspace workspace h))
 
   module _ (enough : least-workspace ≤ workspace) where
-    past : tested workspace sig term ≡ rest (signature sig)
+    past : timed-tests workspace sig term ≡ rest (signature sig)
     past = ap (λ (b : Bool). require b workspace-short 0 >> rest (signature sig)) (le-leb least-workspace workspace enough)
 
-    pub bad : (table : List ℕ) (r : Listed) (p : ℕ) → Read-as (signature sig) sig table r → r ≡ Bad p → bad-signature ≡ number-of (tested workspace sig term)
+    pub bad : (table : List ℕ) (r : Listed) (p : ℕ) → SignatureRead (signature sig) sig table r → r ≡ Bad p → bad-signature ≡ number-of (timed-tests workspace sig term)
     bad table r p R q = sym (ap number-of (past ∙ stop _ (list-refused sig table p r R q)))
 
-    module _ (table : List ℕ) (count : ℕ) (C : Constants-read sig table count) (end : ℕ) (new : List ℕ) (d : Derivation)
+    module _ (table : List ℕ) (count : ℕ) (C : ConstantsRead sig table count) (end : ℕ) (new : List ℕ) (d : Derivation)
         (J : Judged (typed-term (C .Σ) most-words most-nesting term) end new d) where
-      of-type : tested workspace sig term ≡ typed-term (C .Σ) most-words most-nesting term
+      of-type : timed-tests workspace sig term ≡ typed-term (C .Σ) most-words most-nesting term
       of-type = past ∙ ap rest (C .is)
 
-      pub refused-number : (m p : ℕ) → d ≡ Refused m p → m ≡ number-of (tested workspace sig term)
+      pub refused-number : (m p : ℕ) → d ≡ Refused m p → m ≡ number-of (timed-tests workspace sig term)
       refused-number m p q = sym (ap number-of (of-type ∙ refused-by _ end (J .answer) m p q))
 
-      pub typed-number : (n e : ℕ) → d ≡ Typed n e → 0 ≡ number-of (tested workspace sig term)
+      pub typed-number : (n e : ℕ) → d ≡ Typed n e → 0 ≡ number-of (timed-tests workspace sig term)
       typed-number n e q = typed-by _ end (J .answer) n e q λ A i w l. sym (ap number-of (of-type ∙ i))

@@ -9,8 +9,8 @@ use Rattle.logic.specs.Term.{Term}
 use Rattle.logic.specs.SignatureList.{signature}
 use Rattle.typing.specs.Check.{typed-term}
 
-abbrev pub tested : ℕ → (sig term : List ℕ) → Result Term
-tested workspace sig term = do
+abbrev pub timed-tests : ℕ → (sig term : List ℕ) → Result Term
+timed-tests workspace sig term = do
   require (leb least-workspace workspace) workspace-short 0
   Σ ← signature sig
   typed-term Σ most-words most-nesting term

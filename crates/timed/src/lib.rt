@@ -12,12 +12,12 @@ use typing::check::check_term;
 ghost use mathlib.Core.Path.{_≡_};
 ghost use lib.ListN.{length};
 ghost use Rattle.logic.specs.Result.{number-of};
-ghost use Rattle.timed.specs.Timed.{tested};
+ghost use Rattle.timed.specs.Timed.{timed-tests};
 
 // Tests 1, 4 and 6 to 12: the number of the one that refuses, or 0.
 #[no_mangle]
 pub extern "C" fn timed_check(signature: &[u32], term: &[u32], workspace: &mut [u32]) -> u32
-    ensures { λ r. ⌜ r ≡ number-of (tested (length (now (workspace .entry))) (now (signature .entry)) (now (term .entry))) ⌝ }
+    ensures { λ r. ⌜ r ≡ number-of (timed-tests (length (now (workspace .entry))) (now (signature .entry)) (now (term .entry))) ⌝ }
 {
     if workspace.len() < LEAST_WORKSPACE {
         return WORKSPACE_SHORT;

@@ -19,15 +19,15 @@ use Rattle.logic.proofs.Results.{pass, true-both}
 use Rattle.logic.proofs.Searches.{too-deep-right}
 use Rattle.logic.proofs.Stopped.{fail}
 use Rattle.words.specs.Place.{Is}
-use Rattle.words.specs.Parsing.{whole}
+use Rattle.words.specs.Parsing.{whole-end}
 use Rattle.words.specs.Nesting.{nested-to}
 use Rattle.words.proofs.Places.{is-at, size-is}
 use Rattle.words.proofs.Parses.{whole-term, whole-malformed}
 use Rattle.words.proofs.Nestings.{past-is}
-use Rattle.rules.specs.Scope.{no-binder as no-entries}
-use Rattle.rules.specs.Form.{ended}
-use Rattle.typing.specs.Derive.{Derived, Ready}
-use Rattle.typing.specs.Check.{Constants-of, typed-term, Judged}
+use Rattle.rules.specs.Scope.{no-entries}
+use Rattle.rules.specs.Form.{type-and-end}
+use Rattle.typing.specs.Derive.{Derived, SubjectAt}
+use Rattle.typing.specs.Check.{ConstantsOf, typed-term, Judged}
 use Rattle.rules.specs.declared.derivation.Derivation.{Derivation}
 use Rattle.rules.specs.declared.derivation.Derivation.the-variants.{Refused}
 
@@ -50,7 +50,7 @@ module _ (Σ : List Term) (most deep : ℕ) (ws new : List ℕ) where
     in-range : (leb 1 (length ws) && leb (length ws) most) ≡ true
     in-range = true-both (le-leb 1 (length ws) some-word) (le-leb (length ws) most not-more)
 
-    pub malformed-term : (place : ℕ) → whole (read-whole ws) ≡ refused malformed place
+    pub malformed-term : (place : ℕ) → whole-end (read-whole ws) ≡ refused malformed place
         → Judged (typed-term Σ most deep ws) (length ws) new (Refused malformed place)
     malformed-term place e =
         let h = whole-malformed ws place e in
@@ -71,17 +71,17 @@ module _ (Σ : List Term) (most deep : ℕ) (ws new : List ℕ) where
       inferred-term h = read-term ∙ ap (λ x. (nowhere nesting x >> ok t) >>= λ t. infer Σ [] 0 t) h
 
 -- the term that was read
-pub record Term-in (ws : List ℕ) : Type 0 where
+pub record TermIn (ws : List ℕ) : Type 0 where
   pub term : Term
   pub read : read-whole ws ≡ ok term
   pub is : Is ws term
 
-pub term-in : (ws : List ℕ) (end : ℕ) → whole (read-whole ws) ≡ ok end → Term-in ws
+pub term-in : (ws : List ℕ) (end : ℕ) → whole-end (read-whole ws) ≡ ok end → TermIn ws
 term-in ws end e = let (t, f, i, n) = whole-term ws end e in record { term = t; read = f; is = i }
 
 -- with no binders, a term that is not too deep is ready
-pub ready-term : (sig table proof ws : List ℕ) (deep : ℕ) (Σ : List Term) (t : Term) → Constants-of sig table Σ → Is proof t → too-deep deep 0 t ≡ none
-    → deep ≤ most-nesting → Ready sig table proof ws 0 0 0 deep Σ [] t
+pub ready-term : (sig table proof ws : List ℕ) (deep : ℕ) (Σ : List Term) (t : Term) → ConstantsOf sig table Σ → Is proof t → too-deep deep 0 t ≡ none
+    → deep ≤ most-nesting → SubjectAt sig table proof ws 0 0 0 deep Σ [] t
 ready-term sig table proof ws deep Σ t C i h l = record {
   declared = C .declared;
   signature = C .signature;
@@ -96,4 +96,4 @@ pub judged-term : (o o′ : Result Term) (ws old new : List ℕ) (t : Term) (r :
     → Judged o (length ws) new r
 judged-term o o′ ws old new t r e i d =
     let n : 0 + size t ≡ length ws = omega (arith, size-is ws t i) in
-    subst (λ (x : Result Term). Judged x (length ws) new r) (sym e) (record { answer = d .answer ∙ ap (ended o′) n; front = d .front })
+    subst (λ (x : Result Term). Judged x (length ws) new r) (sym e) (record { answer = d .answer ∙ ap (type-and-end o′) n; front = d .front })

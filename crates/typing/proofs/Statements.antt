@@ -25,24 +25,24 @@ use Rattle.typing.specs.Check.{typed-term, Judged, without-value}
 
 module _ (Σ : List Term) (a : ℕ) where
   -- the tests that are left, of the proposition q of the type s
-  abbrev pub stated : Term → Term → Result Term
-  stated q s = condition 0 (same s P) >> (measured 0 (Says (Name a) q) >> ok q)
+  abbrev pub statement-type : Term → Term → Result Term
+  statement-type q s = condition 0 (same s P) >> (measured 0 (Says (Name a) q) >> ok q)
 
   -- a refusal is passed on
-  passed-on : (r : Result Term) (m p : ℕ) → (r >>= λ t. infer Σ [] 0 t) ≡ refused m p → (r >>= λ q. infer Σ [] 0 q >>= stated q) ≡ refused m p
-  passed-on (ok q) m p e = ap (λ r. r >>= stated q) e
+  passed-on : (r : Result Term) (m p : ℕ) → (r >>= λ t. infer Σ [] 0 t) ≡ refused m p → (r >>= λ q. infer Σ [] 0 q >>= statement-type q) ≡ refused m p
+  passed-on (ok q) m p e = ap (λ r. r >>= statement-type q) e
   passed-on (refused m′ p′) m p e = cc
 
   went-on : (r : Result Term) (A : Term) → (r >>= λ t. infer Σ [] 0 t) ≡ ok A
-      → (q : Term) × (r ≡ ok q) × ((r >>= λ q. infer Σ [] 0 q >>= stated q) ≡ stated q A)
-  went-on (ok q) A e = (q, refl, ap (λ r. r >>= stated q) e)
+      → (q : Term) × (r ≡ ok q) × ((r >>= λ q. infer Σ [] 0 q >>= statement-type q) ≡ statement-type q A)
+  went-on (ok q) A e = (q, refl, ap (λ r. r >>= statement-type q) e)
   went-on (refused m p) A e = absurd (clash (cc))
 
   -- a proposition of the type A, which stands at the front
-  pub record Typed-as (ws new : List ℕ) (words : ℕ) : Type 0 where
+  pub record TypedAs (ws new : List ℕ) (words : ℕ) : Type 0 where
     pub q : Term
     pub A : Term
-    pub is : check-statement Σ a ws ≡ stated q A
+    pub is : check-statement Σ a ws ≡ statement-type q A
     pub long : length ws ≡ size q
     pub type : TypeAt new 0 A
     pub type-words : words ≡ size A
@@ -51,7 +51,7 @@ module _ (Σ : List Term) (a : ℕ) where
     pub statement-refused : (m p : ℕ) → r ≡ Refused m p → refused m p ≡ without-value (check-statement Σ a ws)
     statement-refused m p q = sym (stop-then _ (passed-on (term-of most-statement-words most-statement-nesting ws) m p (refused-by _ end (J .answer) m p q)))
 
-    pub statement-typed : (words e : ℕ) → r ≡ Typed words e → Typed-as ws new words
+    pub statement-typed : (words e : ℕ) → r ≡ Typed words e → TypedAs ws new words
     statement-typed words e q = typed-by _ end (J .answer) words e q λ A i w l.
         let (q, j, s) = went-on (term-of most-statement-words most-statement-nesting ws) A i in
         record {
@@ -63,7 +63,7 @@ module _ (Σ : List Term) (a : ℕ) where
           type-words = w;
         }
 
-  module _ (ws new : List ℕ) (words : ℕ) (S : Typed-as ws new words) where
+  module _ (ws new : List ℕ) (words : ℕ) (S : TypedAs ws new words) where
     pub no-proposition : false ≡ same (S .A) P → refused condition-fails 0 ≡ without-value (check-statement Σ a ws)
     no-proposition e = sym (stop-then _ (S .is ∙ fail _ 0 _ (sym e)))
 

@@ -7,11 +7,11 @@ use Rattle.logic.specs.Refusals.{condition-fails, not-a-function}
 use Rattle.logic.specs.Result.{Result, ok, _>>=_, _>>_, known}
 use Rattle.logic.specs.Term.{Op, saysO, piO, lamO, appO, retO, bindO, Term, atom, var, sign, node, size, Op-discrete}
 use Rattle.logic.specs.Infer.{infer, Parts, parts}
-use Rattle.rules.specs.Rule.{first, second, ready, within, formed}
+use Rattle.rules.specs.Rule.{first-child, second-child, ready, within, node-type}
 
 -- the rule of a node whose first child a has the type A
-abbrev pub rule : List Term → List Term → ℕ → Op → (a b A : Term) → Result Term
-rule Σ Γ at o a b A = ready o at A >> (infer Σ (within o a A Γ) (at + 1 + size a) b >>= λ B. formed o at a b A B)
+abbrev pub node-rule : List Term → List Term → ℕ → Op → (a b A : Term) → Result Term
+node-rule Σ Γ at o a b A = ready o at A >> (infer Σ (within o a A Γ) (at + 1 + size a) b >>= λ B. node-type o at a b A B)
 
 -- what goes on with the parts of a term goes on with its children
 abbrev then-parts : ℕ → ℕ → (Term → Term → Result Term) → Option Parts → Result Term
@@ -21,7 +21,7 @@ abbrev then-children : ℕ → ℕ → Result Term → Option Parts → Result T
 then-children m at r o = (known m at o >> ok (tt {0})) >> r
 
 with-parts : (o : Op) (t : Term) (m at : ℕ) (k : Term → Term → Result Term)
-    → then-parts m at k (parts o t) ≡ then-children m at (k (first t) (second t)) (parts o t)
+    → then-parts m at k (parts o t) ≡ then-children m at (k (first-child t) (second-child t)) (parts o t)
 with-parts o (atom a) m at k = refl
 with-parts o (var n) m at k = refl
 with-parts o (sign n q) m at k = refl
@@ -33,8 +33,8 @@ with-parts o (node h a b) m at k = go (Op-discrete o h)
     go (no e) = refl
 
 module _ (Σ Γ : List Term) (at : ℕ) where
-  pub uniform : (o : Op) (a b : Term) → infer Σ Γ at (node o a b) ≡ (infer Σ Γ (at + 1) a >>= λ A. rule Σ Γ at o a b A)
-  unfolding infer ready formed
+  pub uniform : (o : Op) (a b : Term) → infer Σ Γ at (node o a b) ≡ (infer Σ Γ (at + 1) a >>= λ A. node-rule Σ Γ at o a b A)
+  unfolding infer ready node-type
   uniform saysO a b = refl
   uniform piO a b = refl
   uniform lamO a b = refl

@@ -10,18 +10,18 @@ use Rattle.logic.specs.Scope.{Signature}
 use Rattle.logic.specs.Infer.{infer}
 use Rattle.logic.specs.Check.{term-of}
 use Rattle.rules.specs.Scope.{Declared}
-use Rattle.rules.specs.Form.{derivation-answer, ended, Front}
+use Rattle.rules.specs.Form.{derivation-answer, type-and-end, Front}
 use Rattle.rules.specs.declared.derivation.Derivation.{Derivation}
 
 -- the constants' types, by the table, are those of a signature
-pub record Constants-of (sig table : List ℕ) (Σ : List Term) : Type 0 where
+pub record ConstantsOf (sig table : List ℕ) (Σ : List Term) : Type 0 where
   pub declared : Declared sig table Σ
   pub signature : Signature Σ
 
 -- there are such constants, the workspace is not short, and the limits are at most those of a term
-pub record Checkable (sig table ws : List ℕ) (most deep : ℕ) : Type 0 where
+pub record Testable (sig table ws : List ℕ) (most deep : ℕ) : Type 0 where
   pub Σ : List Term
-  pub constants : Constants-of sig table Σ
+  pub constants : ConstantsOf sig table Σ
   pub workspace : least-workspace ≤ length ws
   pub words : most ≤ most-words
   pub nesting : deep ≤ most-nesting
@@ -32,7 +32,7 @@ typed-term Σ most deep ws = term-of most deep ws >>= λ t. infer Σ [] 0 t
 
 -- the answer, and the type at the front of the workspace
 pub record Judged (o : Result Term) (end : ℕ) (new : List ℕ) (r : Derivation) : Type 0 where
-  pub answer : derivation-answer r ≡ ended o end
+  pub answer : derivation-answer r ≡ type-and-end o end
   pub front : Front o new
 
 -- tests, whatever value they give

@@ -24,7 +24,7 @@ ghost use Rattle.logic.specs.Limits.{most-statement-words, most-statement-nesti
 ghost use Rattle.logic.specs.Term.{Term};
 ghost use Rattle.logic.specs.Check.{check-statement};
 ghost use Rattle.rules.specs.Form.{verdict-answer};
-ghost use Rattle.typing.specs.Check.{Constants-of, Checkable, typed-term, Judged, without-value};
+ghost use Rattle.typing.specs.Check.{ConstantsOf, Testable, typed-term, Judged, without-value};
 
 // Tests 6 to 12 of a term of at most `most` words, nested at most `deep`. Its type comes to the front of the workspace.
 pub fn check_term(
@@ -35,8 +35,8 @@ pub fn check_term(
     deep: usize,
     ws: &mut [u32],
 ) -> Derivation
-    requires { ⌜ Checkable (now sig) (now table) (now ws) most deep ⌝ }
-    ensures { λ r. ⌜ ((Σ : List Term) → Constants-of (now (sig .entry)) (now (table .entry)) Σ
+    requires { ⌜ Testable (now sig) (now table) (now ws) most deep ⌝ }
+    ensures { λ r. ⌜ ((Σ : List Term) → ConstantsOf (now (sig .entry)) (now (table .entry)) Σ
         → Judged (typed-term Σ most deep (now (term .entry))) (length (now (term .entry))) (now (ws .exit)) r) ⌝ }
 {
     let len = term.len();
@@ -72,8 +72,8 @@ pub fn check_term(
 // Tests 6 to 12 of a proposition as the term Sign: its places count from 0, and a fault at the added word
 // is at place 0. That word counts for 6 and 8.
 pub fn check_statement(sig: &[u32], table: &[u32], proposition: &[u32], ws: &mut [u32]) -> Verdict
-    requires { ⌜ Checkable (now sig) (now table) (now ws) most-statement-words most-statement-nesting ⌝ }
-    ensures { λ r. ⌜ ((Σ : List Term) → (a : ℕ) → Constants-of (now (sig .entry)) (now (table .entry)) Σ
+    requires { ⌜ Testable (now sig) (now table) (now ws) most-statement-words most-statement-nesting ⌝ }
+    ensures { λ r. ⌜ ((Σ : List Term) → (a : ℕ) → ConstantsOf (now (sig .entry)) (now (table .entry)) Σ
         → verdict-answer r ≡ without-value (check-statement Σ a (now (proposition .entry)))) ⌝ }
 {
     let typed = check_term(

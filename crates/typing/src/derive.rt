@@ -15,7 +15,7 @@ ghost use Prim.Native.Nat.{_+_};
 ghost use mathlib.Core.List.{List};
 ghost use Rattle.logic.specs.Term.{Term, size};
 ghost use Rattle.logic.specs.Infer.{infer};
-ghost use Rattle.typing.specs.Derive.{Ready, Derivable, Derived};
+ghost use Rattle.typing.specs.Derive.{SubjectAt, Derivable, Derived};
 
 // The type of the term that stands at `at` in the proof, at the front of the workspace. `table` says where the
 // constants' types stand in the signature. Of the `used` words kept at the end of the workspace, those before the last
@@ -33,7 +33,7 @@ pub fn derive(
 ) -> Derivation
     requires { ⌜ Derivable (now sig) (now table) (now proof) (now ws) floor used at left ⌝ }
     ensures { λ r. ⌜ ((Σ Γ : List Term) → (t : Term)
-        → Ready (now (sig .entry)) (now (table .entry)) (now (proof .entry)) (now (ws .entry)) floor used at left Σ Γ t
+        → SubjectAt (now (sig .entry)) (now (table .entry)) (now (proof .entry)) (now (ws .entry)) floor used at left Σ Γ t
         → Derived (infer Σ Γ at t) (at + size t) used (now (ws .entry)) (now (ws .exit)) r) ⌝ }
 {
     let word = proof[at];

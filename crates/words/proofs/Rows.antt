@@ -5,8 +5,8 @@ use mathlib.Core.Path.{_≡_, refl, ap, _∙_}
 use mathlib.Core.List.{List, [], _∷_, _++_, append-assoc, append-nil}
 use lib.ListN.{length, drop, getD}
 use Rattle.logic.specs.Term.{Term, atom, var, sign, node, encode, size}
-use Rattle.logic.specs.Reading.{Plain, shape}
-use Rattle.logic.specs.Kind.{childrenOf}
+use Rattle.logic.specs.Reading.{Plain, word-shape}
+use Rattle.logic.specs.Kind.{shape-children}
 use Rattle.logic.proofs.Words.{head, shape-first, size-pos}
 use Rattle.words.specs.Place.{At}
 use Rattle.words.proofs.Places.{cons-tail, at-head}
@@ -24,28 +24,28 @@ sizes [] = 0
 sizes (t ∷ ts) = size t + sizes ts
 
 -- the terms ts stand in a row, with the words `rest` behind them
-pub record Row (ws : List ℕ) (at : ℕ) (ts : List Term) (rest : List ℕ) : Type 0 where
+pub record TermRow (ws : List ℕ) (at : ℕ) (ts : List Term) (rest : List ℕ) : Type 0 where
   pub plain : AllPlain ts
   pub words : drop at ws ≡ encodes ts ++ rest
 
 -- what stands behind a term's first word, in front of others
-abbrev pub behind : Term → List Term → List Term
-behind (atom a) ts = ts
-behind (var n) ts = ts
-behind (sign n q) ts = q ∷ ts
-behind (node o a b) ts = a ∷ b ∷ ts
+abbrev pub next-terms : Term → List Term → List Term
+next-terms (atom a) ts = ts
+next-terms (var n) ts = ts
+next-terms (sign n q) ts = q ∷ ts
+next-terms (node o a b) ts = a ∷ b ∷ ts
 
-pub row-head : {ws : List ℕ} {at : ℕ} {t : Term} {ts : List Term} {rest : List ℕ} → Row ws at (t ∷ ts) rest → At ws at t
+pub row-head : {ws : List ℕ} {at : ℕ} {t : Term} {ts : List Term} {rest : List ℕ} → TermRow ws at (t ∷ ts) rest → At ws at t
 row-head {t} {ts} {rest} h = record { plain = h .plain .0; rest = encodes ts ++ rest; words = h .words ∙ append-assoc (encode t) (encodes ts) rest }
 
-pub row-one : {ws : List ℕ} {at : ℕ} {t : Term} (h : At ws at t) → Row ws at (t ∷ []) (h .rest)
+pub row-one : {ws : List ℕ} {at : ℕ} {t : Term} (h : At ws at t) → TermRow ws at (t ∷ []) (h .rest)
 row-one {t} h = record { plain = (h .plain, tt); words = h .words ∙ ap (λ (l : List ℕ). l ++ h .rest) (sym-nil (encode t)) }
   where
     sym-nil : (l : List ℕ) → l ≡ l ++ []
     sym-nil l = cc (append-nil l)
 
 -- one word on
-pub row-next : {ws : List ℕ} {at : ℕ} {rest : List ℕ} (t : Term) (ts : List Term) → Row ws at (t ∷ ts) rest → Row ws (at + 1) (behind t ts) rest
+pub row-next : {ws : List ℕ} {at : ℕ} {rest : List ℕ} (t : Term) (ts : List Term) → TermRow ws at (t ∷ ts) rest → TermRow ws (at + 1) (next-terms t ts) rest
 unfolding encode Plain
 row-next {ws} {at} (atom a) ts h = record { plain = h .plain .1; words = cons-tail ws at _ _ (h .words) }
 row-next {ws} {at} (var n) ts h = record { plain = h .plain .1; words = cons-tail ws at _ _ (h .words) }
@@ -57,13 +57,13 @@ row-next {ws} {at} {rest} (node o a b) ts h = record {
 
 -- ---- a count of the terms still to be read
 
-behind-length : (t : Term) (ts : List Term) → length (behind t ts) ≡ length ts + childrenOf (head t)
+behind-length : (t : Term) (ts : List Term) → length (next-terms t ts) ≡ length ts + shape-children (head t)
 behind-length (atom a) ts = omega arith
 behind-length (var n) ts = omega arith
 behind-length (sign n q) ts = omega arith
 behind-length (node o a b) ts = omega arith
 
-behind-size : (t : Term) (ts : List Term) → size t + sizes ts ≡ 1 + sizes (behind t ts)
+behind-size : (t : Term) (ts : List Term) → size t + sizes ts ≡ 1 + sizes (next-terms t ts)
 unfolding size
 behind-size (atom a) ts = refl
 behind-size (var n) ts = refl
@@ -75,37 +75,37 @@ few [] = omega arith
 few (t ∷ ts) = let h = few ts in let p = size-pos t in omega arith
 
 -- so many terms stand in a row from a place on, and end at another
-pub record Left (ws : List ℕ) (at count end : ℕ) : Type 0 where
+pub record TermsLeft (ws : List ℕ) (at count end : ℕ) : Type 0 where
   pub terms : List Term
   pub rest : List ℕ
-  pub row : Row ws at terms rest
+  pub row : TermRow ws at terms rest
   pub number : length terms ≡ count
   pub ends : at + sizes terms ≡ end
 
-pub left-start : {ws : List ℕ} {at : ℕ} {t : Term} → At ws at t → Left ws at 1 (at + size t)
+pub left-start : {ws : List ℕ} {at : ℕ} {t : Term} → At ws at t → TermsLeft ws at 1 (at + size t)
 left-start {t} h = record { terms = t ∷ []; rest = h .rest; row = row-one h; number = refl; ends = omega arith }
 
-pub left-few : {ws : List ℕ} {at count end : ℕ} → Left ws at count end → at + count ≤ end
+pub left-few : {ws : List ℕ} {at count end : ℕ} → TermsLeft ws at count end → at + count ≤ end
 left-few l = omega (arith, few (l .terms), l .number, l .ends)
 
-pub left-none : {ws : List ℕ} {at count end : ℕ} → Left ws at count end → count ≤ 0 → at ≡ end
+pub left-none : {ws : List ℕ} {at count end : ℕ} → TermsLeft ws at count end → count ≤ 0 → at ≡ end
 left-none {ws} {at} {count} {end} l z = go (l .terms) (l .number) (l .ends)
   where
     go : (ts : List Term) → length ts ≡ count → at + sizes ts ≡ end → at ≡ end
     go [] n e = omega arith
     go (t ∷ ts) n e = absurd (omega arith)
 
-pub left-next : {ws : List ℕ} {at count end : ℕ} (n : ℕ) → 0 < count → n ≡ childrenOf (shape (getD ws at 0)) → Left ws at count end
-    → Left ws (at + 1) (count - 1 + n) end
+pub left-next : {ws : List ℕ} {at count end : ℕ} (n : ℕ) → 0 < count → n ≡ shape-children (word-shape (getD ws at 0)) → TermsLeft ws at count end
+    → TermsLeft ws (at + 1) (count - 1 + n) end
 left-next {ws} {at} {count} {end} n p e l = go (l .terms) (l .row) (l .number) (l .ends)
   where
-    go : (ts : List Term) → Row ws at ts (l .rest) → length ts ≡ count → at + sizes ts ≡ end → Left ws (at + 1) (count - 1 + n) end
+    go : (ts : List Term) → TermRow ws at ts (l .rest) → length ts ≡ count → at + sizes ts ≡ end → TermsLeft ws (at + 1) (count - 1 + n) end
     go [] r m s = absurd (omega arith)
     go (t ∷ ts) r m s =
-        let c : childrenOf (shape (getD ws at 0)) ≡ childrenOf (head t) = ap (λ (w : ℕ). childrenOf (shape w)) (at-head (row-head r))
-        ∙ ap childrenOf (shape-first t (r .plain .0)) in
+        let c : shape-children (word-shape (getD ws at 0)) ≡ shape-children (head t) = ap (λ (w : ℕ). shape-children (word-shape w)) (at-head (row-head r))
+        ∙ ap shape-children (shape-first t (r .plain .0)) in
         record {
-          terms = behind t ts;
+          terms = next-terms t ts;
           rest = l .rest;
           row = row-next t ts r;
           number = omega (arith, behind-length t ts);

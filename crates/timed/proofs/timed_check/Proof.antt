@@ -2,7 +2,7 @@
 use mathlib.Core.Path.{sym}
 use lib.ListN.{length}
 use lib.Seq.{length-take-le}
-use Rattle.signature.proofs.Accepted.{Constants-read, constants-read, count-within}
+use Rattle.signature.proofs.Accepted.{ConstantsRead, constants-read, count-within}
 use Rattle.timed.proofs.Answers.{short, bad, refused-number, typed-number}
 use native.Mathlib.Omega.{arith}
 use borrow.Author.Needs.{needs}
@@ -27,7 +27,7 @@ before-check-term c = c .before .before .before .before
 found : (c : tie.After-listed) →
     let at-read-signature = before-listed c in
     let at-start = before-else1 (before-read-signature at-read-signature) in
-    Constants-read (at-start .args .signature .now) (at-read-signature .read-signature .last .1 .0) (c .listed .given .0 .0)
+    ConstantsRead (at-start .args .signature .now) (at-read-signature .read-signature .last .1 .0) (c .listed .given .0 .0)
 found c =
     let at-read-signature = before-listed c in
     let at-start = before-else1 (before-read-signature at-read-signature) in

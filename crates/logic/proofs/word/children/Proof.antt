@@ -1,12 +1,12 @@
 -- `children` gives the number of a word's children, by a digit of a table, as `kind` does its kind.
 use mathlib.Core.Path.{refl}
 use borrow.Author.Needs.{needs}
-use Rattle.logic.specs.Kind.{childrenOf}
-use Rattle.logic.proofs.Shapes.{Table, table-bare, table-full, table-none}
+use Rattle.logic.specs.Kind.{shape-children}
+use Rattle.logic.proofs.Shapes.{DigitTable, table-bare, table-full, table-none}
 use Rattle.logic.proofs.word.children.Statement.{statement}
 use Rattle.logic.proofs.word.children.Tie as tie
 
-table : Table childrenOf 2454464142505934851 3679444413945426739
+table : DigitTable shape-children 2454464142505934851 3679444413945426739
 table = record { empty = refl; filled = λ p e. simp e }
 
 tag-of-requires : tie.Need-tag-of-requires

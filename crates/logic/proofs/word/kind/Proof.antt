@@ -2,12 +2,12 @@
 -- of all tags; the three ways out are a bare word, a word with a payload, and a tag past the table.
 use mathlib.Core.Path.{refl}
 use borrow.Author.Needs.{needs}
-use Rattle.logic.specs.Kind.{kindOf}
-use Rattle.logic.proofs.Shapes.{Table, table-bare, table-full, table-none}
+use Rattle.logic.specs.Kind.{shape-kind}
+use Rattle.logic.proofs.Shapes.{DigitTable, table-bare, table-full, table-none}
 use Rattle.logic.proofs.word.kind.Statement.{statement}
 use Rattle.logic.proofs.word.kind.Tie as tie
 
-table : Table kindOf 4836869591194927109 6133908556452549973
+table : DigitTable shape-kind 4836869591194927109 6133908556452549973
 table = record { empty = refl; filled = λ p e. simp e }
 
 tag-of-requires : tie.Need-tag-of-requires

@@ -10,8 +10,8 @@ use borrow.Author.Needs.{needs}
 use borrow.Fn.Kinds.{In}
 use borrow.Fn.PlainCycle.{Measures, is, falls, and}
 use Rattle.logic.specs.Term.{Term, size}
-use Rattle.logic.specs.Move.{fillAt}
-use Rattle.logic.proofs.Shapes.{headKind}
+use Rattle.logic.specs.Move.{fill-at}
+use Rattle.logic.proofs.Shapes.{term-kind}
 use Rattle.logic.proofs.word.kind.Reads as kind-reads
 use Rattle.words.specs.Place.{At}
 use Rattle.words.proofs.Places.{at-kind, at-end, Halves, halves, at-within}
@@ -126,7 +126,7 @@ module _ (t : ℕ) where
   within c = at-within (c .loop .inv .here .here)
 
   -- the kind that was found is that of any term that stands there
-  kind-known : (c : Known) (u : Term) → At (start (turn c) .args .src .now) (turn c .loop .start) u → c .kind .result ≡ headKind u
+  kind-known : (c : Known) (u : Term) → At (start (turn c) .args .src .now) (turn c .loop .start) u → c .kind .result ≡ term-kind u
   kind-known c u h = c .kind .ensures ∙ at-kind h
 
   -- where the Sign ends
@@ -144,14 +144,14 @@ module _ (t : ℕ) where
 
   -- where the first child's words end, in both lists
   first-ends : (c : Second) → let n = as-node (first c) in let d = turn (known-node n) in let l = d .loop in
-      Was (node n .first) (fillAt (l .depth) (l .inv .here .filler) (node n .first)) (l .start + 1) (length (headed d)) (l .place + 1)
+      Was (node n .first) (fill-at (l .depth) (l .inv .here .filler) (node n .first)) (l .start + 1) (length (headed d)) (l .place + 1)
       (c .before .first .given .0 .0) (c .before .first .given .0 .1 .0)
   first-ends c =
       let f = first c in
       let l = turn (known-node (as-node f)) .loop in
       let n = node (as-node f) in
       let p = l .inv .here in
-      done-is (n .first) (fillAt (l .depth) (p .filler) (n .first)) (l .start + 1) (l .place + 1) _
+      done-is (n .first) (fill-at (l .depth) (p .filler) (n .first)) (l .start + 1) (l .place + 1) _
       (f .fill-into .ensures (n .first) (p .filler) (n .left) (p .lends) .answer) _ _ (c .before .first .given .1)
 
   -- ---- the needs
@@ -234,7 +234,7 @@ module _ (t : ℕ) where
   returns-4 : lts.Need-returns-4 (calls t) (given t) fill-into.Post Inv-loop μ-loop
   returns-4 c =
       let l = turn (c .before .before .before) .loop in
-      l .inv .whole _ _ (λ u e h i. none-over u (fillAt (l .depth) e u) (l .start) (l .out) (l .place) (c .if4 .taken))
+      l .inv .whole _ _ (λ u e h i. none-over u (fill-at (l .depth) e u) (l .start) (l .out) (l .place) (c .if4 .taken))
 
   mul-out : lts.Need-mul-out (calls t) (given t) fill-into.Post Inv-loop μ-loop
   mul-out c = search needs

@@ -9,7 +9,7 @@ use borrow.Fn.Kinds.{In}
 use borrow.Fn.PlainCycle.{Measures, is, falls, and}
 use Rattle.logic.specs.Term.{Term, size}
 use Rattle.logic.specs.Move.{occurs as occursIn}
-use Rattle.logic.proofs.Shapes.{headKind}
+use Rattle.logic.proofs.Shapes.{term-kind}
 use Rattle.logic.proofs.word.kind.Reads as kind-reads
 use Rattle.logic.proofs.word.payload_of.Reads as payload-of-reads
 use Rattle.words.specs.Place.{At}
@@ -71,7 +71,7 @@ module _ (t : ℕ) where
   within s = at-within (s .pre .1 .here)
 
   -- the kind that was found is that of any term that stands there
-  kind-known : (c : Known) (u : Term) → At (start c .args .words .now) (start c .args .at) u → c .kind .result ≡ headKind u
+  kind-known : (c : Known) (u : Term) → At (start c .args .words .now) (start c .args .at) u → c .kind .result ≡ term-kind u
   kind-known c u h = c .kind .ensures ∙ at-kind h
 
   -- the children of the node that stands there

@@ -14,7 +14,7 @@ use borrow.Fn.Kinds.{In}
 use borrow.Fn.PlainCycle.{Measures, is, falls, and}
 use Rattle.logic.specs.Limits.{payloads}
 use Rattle.logic.specs.Term.{Term, size}
-use Rattle.logic.proofs.Shapes.{headKind}
+use Rattle.logic.proofs.Shapes.{term-kind}
 use Rattle.logic.proofs.word.kind.Reads as kind-reads
 use Rattle.logic.proofs.word.payload_of.Reads as payload-of-reads
 use Rattle.logic.proofs.Words.{size-pos}
@@ -105,7 +105,7 @@ module _ (t : ℕ) where
   near s = rw (amount s) (s .pre .1 .near)
 
   -- the kind that was found is that of any term that stands there
-  kind-known : (c : Known) (u : Term) → At (start c .args .words .now) (start c .args .at) u → c .kind .result ≡ headKind u
+  kind-known : (c : Known) (u : Term) → At (start c .args .words .now) (start c .args .at) u → c .kind .result ≡ term-kind u
   kind-known c u h = c .kind .ensures ∙ at-kind h
 
   -- the children of the node that stands there

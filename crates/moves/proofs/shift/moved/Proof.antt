@@ -1,13 +1,13 @@
 -- Three ways out: the variable is bound and stays, or the sum is below 0, or it is the number moved.
 use borrow.Author.Needs.{needs}
-use Rattle.moves.proofs.Signed.{add-fits, cast-up, kept, down, up}
+use Rattle.moves.proofs.Signed.{add-fits, cast-up, moved-kept, moved-down, moved-up}
 use Rattle.moves.proofs.shift.moved.Statement.{statement}
 use Rattle.moves.proofs.shift.moved.Tie as tie
 
 returns : tie.Need-returns
 returns c =
     let s = c .before in
-    kept (s .args .n) (s .args .amount) (s .pre .0) (s .pre .1) (s .fits .amount) (s .args .c) (c .if1 .taken)
+    moved-kept (s .args .n) (s .args .amount) (s .pre .0) (s .pre .1) (s .fits .amount) (s .args .c) (c .if1 .taken)
 
 cast-m : tie.Need-cast-m
 cast-m c = search needs
@@ -25,12 +25,12 @@ cast-result c =
 returns-2 : tie.Need-returns-2
 returns-2 c =
     let s = c .before .before in
-    down (s .args .n) (s .args .amount) (s .pre .0) (s .pre .1) (s .fits .amount) (s .args .c) (c .before .if1 .left) (c .if2 .taken)
+    moved-down (s .args .n) (s .args .amount) (s .pre .0) (s .pre .1) (s .fits .amount) (s .args .c) (c .before .if1 .left) (c .if2 .taken)
 
 returns-3 : tie.Need-returns-3
 returns-3 c =
     let s = c .before .before in
-    up (s .args .n) (s .args .amount) (s .pre .0) (s .pre .1) (s .fits .amount) (s .args .c) (c .before .if1 .left) (c .if2 .left)
+    moved-up (s .args .n) (s .args .amount) (s .pre .0) (s .pre .1) (s .fits .amount) (s .args .c) (c .before .if1 .left) (c .if2 .left)
 
 pub moved-spec : {M : Type 1} → statement M
 moved-spec = tie.close (tie.spec returns cast-m add-m cast-result returns-2 returns-3)

@@ -6,7 +6,7 @@ use mathlib.Core.Path.{_≡_, refl}
 use lib.ListN.{length, take, drop, replicate}
 use borrow.Author.Tests.{not-false}
 use borrow.Author.Needs.{needs}
-use Rattle.logic.specs.Move.{fillAt}
+use Rattle.logic.specs.Move.{fill-at}
 use Rattle.logic.specs.Limits.{most-words, most-type-words}
 use Rattle.logic.specs.Term.{Term, size}
 use Rattle.moves.specs.Fill.{Fillable, FilledTo}
@@ -98,7 +98,7 @@ fillable c =
 filled : (c : tie.After-fill-into) (d C e E : Term) →
     let at-start = before-held (before-else2 (before-fill-into c)) in
     let a = at-start .args in
-    Applies (a .proof .now) (a .ws .now) (a .next) (a .n) (a .m) (a .end) d C e E → FilledTo C (fillAt 0 e C) (1 + a .m) (replicate 32 0) 0
+    Applies (a .proof .now) (a .ws .now) (a .next) (a .n) (a .m) (a .end) d C e E → FilledTo C (fill-at 0 e C) (1 + a .m) (replicate 32 0) 0
     (c .fill-into .last .1 .1 .1 .1 .0) (c .fill-into .result)
 filled c d C e E j =
     let at-else2 = before-fill-into c in
@@ -111,7 +111,7 @@ filled c d C e E j =
 filled-long : (c : tie.After-fill-into2) (d C e E : Term) →
     let at-start = before-held (before-else2 (before-fill-into (before-small2 (before-fill-into2 c)))) in
     let a = at-start .args in
-    Applies (a .proof .now) (a .ws .now) (a .next) (a .n) (a .m) (a .end) d C e E → FilledTo C (fillAt 0 e C) (1 + a .m) (replicate most-type-words 0)
+    Applies (a .proof .now) (a .ws .now) (a .next) (a .n) (a .m) (a .end) d C e E → FilledTo C (fill-at 0 e C) (1 + a .m) (replicate most-type-words 0)
     0 (c .fill-into2 .last .1 .1 .1 .1 .0) (c .fill-into2 .result)
 filled-long c d C e E j =
     let at-else2 = before-fill-into (before-small2 (before-fill-into2 c)) in
@@ -201,7 +201,7 @@ copy-requires c κs =
     let s = before-held (before-else2 (before-fill-into at-fill-into)) in
     let p = s .pre in
     let f = filled at-fill-into (p .d) (p .C) (p .e) (p .E) (p .applies) in
-    let was = done-is (p .C) (fillAt 0 (p .e) (p .C)) (1 + s .args .m) 0 _ (f .answer) _ _ (at-short .short .given .1) in
+    let was = done-is (p .C) (fill-at 0 (p .e) (p .C)) (1 + s .args .m) 0 _ (f .answer) _ _ (at-short .short .given .1) in
     let w : at-short .short .given .0 .1 .0 ≤ 32 = was .fits in
     let k = at-fill-into .fill-into .kept .1 .1 .1 .1 .0 in
     let z = sizes s in
@@ -259,7 +259,7 @@ copy-requires-2 c κs =
     let s = before-held (before-else2 (before-fill-into (before-small2 (before-fill-into2 at-fill-into2)))) in
     let p = s .pre in
     let f = filled-long at-fill-into2 (p .d) (p .C) (p .e) (p .E) (p .applies) in
-    let was = done-is (p .C) (fillAt 0 (p .e) (p .C)) (1 + s .args .m) 0 _ (f .answer) _ _ (at-long .long .given .1) in
+    let was = done-is (p .C) (fill-at 0 (p .e) (p .C)) (1 + s .args .m) 0 _ (f .answer) _ _ (at-long .long .given .1) in
     let w : at-long .long .given .0 .1 .0 ≤ most-type-words = was .fits in
     let k = at-fill-into2 .fill-into2 .kept .1 .1 .1 .1 .0 in
     let z = sizes s in

@@ -8,7 +8,7 @@ use lib.ListN.{length, getD}
 use lib.Dec.{eqb}
 use borrow.Author.Needs.{needs}
 use Rattle.logic.specs.Infer.{same}
-use Rattle.logic.specs.Term.{propA, kindPA, lamO, appO, retO, bindO, Term, P, KindP, opWord}
+use Rattle.logic.specs.Term.{propA, kindPA, lamO, appO, retO, bindO, Term, P, KindP, op-word}
 use Rattle.words.specs.Typed.{TypeAt}
 use Rattle.words.proofs.Types.{at-type, type-within}
 use Rattle.results.proofs.Formings.{formed-app, formed-bind, formed-lam, formed-ret, appliable, bindable, pairable, formed-prop}
@@ -52,8 +52,8 @@ before-pair2 c = c .before .before .before .before .before
 others : (c : tie.Else4) →
     let at-start = before-slice-known (before-else4 c) in
     let a = at-start .args in
-    (eqb (getD (a .proof .now) (a .at) 0) (opWord appO) ≡ false) × (eqb (getD (a .proof .now) (a .at) 0) (opWord bindO) ≡ false) ×
-    (eqb (getD (a .proof .now) (a .at) 0) (opWord lamO) ≡ false) × (eqb (getD (a .proof .now) (a .at) 0) (opWord retO) ≡ false)
+    (eqb (getD (a .proof .now) (a .at) 0) (op-word appO) ≡ false) × (eqb (getD (a .proof .now) (a .at) 0) (op-word bindO) ≡ false) ×
+    (eqb (getD (a .proof .now) (a .at) 0) (op-word lamO) ≡ false) × (eqb (getD (a .proof .now) (a .at) 0) (op-word retO) ≡ false)
 others c = (c .before .before .before .if1 .left, c .before .before .if2 .left, c .before .if3 .left, c .if4 .left)
 
 -- what the tests say, of any type that stands there

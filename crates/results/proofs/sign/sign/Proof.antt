@@ -7,7 +7,7 @@ use lib.ListN.{length, length-set}
 use borrow.Author.Needs.{needs}
 use Rattle.logic.specs.Infer.{same}
 use Rattle.logic.specs.Limits.{most-words}
-use Rattle.logic.specs.Term.{propA, saysO, Term, P, opWord, size}
+use Rattle.logic.specs.Term.{propA, saysO, Term, P, op-word, size}
 use Rattle.logic.proofs.Words.{size-pos}
 use Rattle.words.proofs.Places.{at-end}
 use Rattle.rules.specs.Form.{front-words}
@@ -105,7 +105,7 @@ add-ws c = search needs
 slice-write-ws-2 : tie.Need-slice-write-ws-2
 slice-write-ws-2 c =
     let at-start = before-front-is (before-else1 (before-else2 (before-payload-of c))) in
-    let z = sizes at-start in let l = length-set (at-start .args .ws .now) 0 (opWord saysO) in omega (arith, l, z)
+    let z = sizes at-start in let l = length-set (at-start .args .ws .now) 0 (op-word saysO) in omega (arith, l, z)
 
 add-copy : tie.Need-add-copy
 add-copy c =

@@ -1,5 +1,5 @@
 -- `constant` gives a constant's type: there is none, or it is too long, or its words are copied from the signature.
-use Rattle.rules.proofs.Atoms.{ConstantAt, constant-at, constant-unknown, constant-long, constant-copied}
+use Rattle.rules.proofs.Atoms.{ConstantAt, constant-placed, constant-unknown, constant-long, constant-copied}
 use Rattle.rules.specs.Scope.{Declared}
 use Rattle.words.proofs.Places.{at-end}
 use Rattle.logic.specs.Term.{Term}
@@ -16,7 +16,7 @@ here-for : (c : tie.Else1) (Σ : List Term) →
     Declared (c .before .before .before .before .args .sig .now) (c .before .before .before .before .args .table .now) Σ →
     ConstantAt (c .before .before .before .before .args .sig .now) (c .before .before .before .before .args .table .now)
     (c .before .before .before .before .args .n) Σ
-here-for c Σ d = let s = c .before .before .before .before in constant-at (s .args .n) (c .if1 .left) d
+here-for c Σ d = let s = c .before .before .before .before in constant-placed (s .args .n) (c .if1 .left) d
 
 abbrev here : (c : tie.Else1) →
     ConstantAt (c .before .before .before .before .args .sig .now) (c .before .before .before .before .args .table .now)

@@ -4,7 +4,7 @@ use mathlib.Core.Path.{sym, ap, ap₂, _∙_}
 use mathlib.Core.Bool.{Bool, _||_}
 use lib.Dec.{eqb}
 use borrow.Author.Tests.{ne-eqb}
-use Rattle.logic.specs.Term.{atomWord, kindPA}
+use Rattle.logic.specs.Term.{atom-word, kindPA}
 use Rattle.rules.proofs.enter.domain.Statement.{statement}
 use Rattle.rules.proofs.enter.domain.Tie as tie
 
@@ -17,7 +17,7 @@ returns-2 c = λ A p e. ap domain-word (sym (c .if2 .taken)) ∙ domain-first A 
 returns-3 : tie.Need-returns-3
 returns-3 c = λ A p e.
     let w = c .before .before .args .word in
-    ap₂ (λ (t q : Bool). t || q || eqb w (atomWord kindPA)) (sym (ne-eqb w _ (c .before .if1 .left))) (sym (ne-eqb w _ (c .if2 .left))) ∙ domain-first A w p e
+    ap₂ (λ (t q : Bool). t || q || eqb w (atom-word kindPA)) (sym (ne-eqb w _ (c .before .if1 .left))) (sym (ne-eqb w _ (c .if2 .left))) ∙ domain-first A w p e
 
 pub domain-spec : {M : Type 1} → statement M
 domain-spec = tie.close (tie.spec returns returns-2 returns-3)

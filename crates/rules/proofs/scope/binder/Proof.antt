@@ -1,11 +1,11 @@
 -- `binder` searches the entry of variable n, by a loop over entries. The invariant (`Found`): from `kept` on, the words
 -- kept are the entries of the binders behind the first n - left. The measure is `kept`.
-use Rattle.rules.proofs.Scopes.{Step, step, passed-none, passed-n, passed, passed-all}
+use Rattle.rules.proofs.Scopes.{EntryStep, entry-step, passed-none, passed-n, passed-one, passed-all}
 use mathlib.Core.List.{List}
 use Prim.Native.Nat.{ℕ, _-_, _≤_}
 use Rattle.logic.specs.Term.{Term}
 use Rattle.rules.specs.Scope.{scope-words, Binders}
-use Rattle.rules.specs.Variable.{Found}
+use Rattle.rules.specs.Variable.{BinderFound}
 use borrow.Author.Needs.{needs}
 use native.Mathlib.Omega.{arith}
 use Rattle.rules.proofs.scope.binder.Statement.{statement}
@@ -13,21 +13,21 @@ use Rattle.rules.proofs.scope.binder.Tie as tie
 
 abbrev Inv-loop : tie.InvT-loop
 Inv-loop ws floor used n kept₀ left₀ kept left =
-    (left ≤ n) × ((proof : List ℕ) (Γ : List Term) → Binders proof (scope-words floor used ws) Γ → Found proof ws floor used (n - left) Γ kept)
+    (left ≤ n) × ((proof : List ℕ) (Γ : List Term) → Binders proof (scope-words floor used ws) Γ → BinderFound proof ws floor used (n - left) Γ kept)
 
 abbrev μ-loop : tie.MeasureT-loop
 μ-loop ws floor used n kept₀ left₀ kept left = kept
 
 -- the entry that is reached, among the binders that `requires` brought
-reached : (c : tie.At-loop Inv-loop μ-loop) → Found (c .before .pre .proof) (c .before .args .ws .now) (c .before .args .floor) (c .before .args .used)
+reached : (c : tie.At-loop Inv-loop μ-loop) → BinderFound (c .before .pre .proof) (c .before .args .ws .now) (c .before .args .floor) (c .before .args .used)
     (c .before .args .n - c .loop .left) (c .before .pre .Γ) (c .loop .kept)
 reached c = c .loop .inv .1 (c .before .pre .proof) (c .before .pre .Γ) (c .before .pre .binders)
 
-next : (c : tie.In-loop Inv-loop μ-loop) → Step (c .before .before .args .ws .now) (c .before .before .args .floor) (c .before .loop .kept)
+next : (c : tie.In-loop Inv-loop μ-loop) → EntryStep (c .before .before .args .ws .now) (c .before .before .args .floor) (c .before .loop .kept)
 next c =
     let l = c .before in
     let s = l .before in
-    step (c .loop-test .taken) (s .pre .inside) (reached l)
+    entry-step (c .loop-test .taken) (s .pre .inside) (reached l)
 
 loop-holds : tie.Need-loop-holds Inv-loop μ-loop
 loop-holds c = (omega arith, λ proof Γ b. passed-none (c .args .n) (c .pre .below) b)
@@ -64,7 +64,7 @@ loop-again c =
     let l = c .before .before .before in
     let s = l .before in (
       omega arith,
-      λ proof Γ b. passed (l .loop .left) (s .args .n) (c .before .before .loop-test .taken) (s .pre .inside) (omega arith) (l .loop .inv .0)
+      λ proof Γ b. passed-one (l .loop .left) (s .args .n) (c .before .before .loop-test .taken) (s .pre .inside) (omega arith) (l .loop .inv .0)
           (l .loop .inv .1 proof Γ b),
     )
 

@@ -11,7 +11,7 @@ use borrow.Author.Needs.{needs}
 use Rattle.logic.specs.Limits.{most-type-words}
 use Rattle.logic.specs.Term.{Term, size}
 use Rattle.words.specs.Place.{Is}
-use Rattle.words.specs.Lookup.{partOf}
+use Rattle.words.specs.Lookup.{part-of}
 use Rattle.words.proofs.Places.{size-is}
 use Rattle.rules.proofs.Variables.{amount-fits, amount-is, amount-near, cond-length, raised-front}
 use Rattle.rules.proofs.scope.raised.Statement.{statement}
@@ -37,7 +37,7 @@ amount s = amount-is (s .args .n) 1 (s .pre .number) (omega arith) ∙ ap pos (a
 
 -- the words of A are looked up
 abbrev Part : tie.Start → Term → Type 0
-Part s A = let a = s .args in Is (partOf (a .proof .now) (a .ws .now) (a .in-workspace) (a .from) (a .from + a .size)) A
+Part s A = let a = s .args in Is (part-of (a .proof .now) (a .ws .now) (a .in-workspace) (a .from) (a .from + a .size)) A
 
 part : (c : tie.After-lookup) (A : Term) → Part (start c) A → Is (c .lookup .result .now) A
 part c A i = subst (λ (x : List ℕ). Is x A) (sym (c .lookup .ensures)) i

@@ -4,7 +4,7 @@ use mathlib.Core.Bool.{cond}
 use Rattle.rules.proofs.Variables.{cond-true, cond-false, Entry, entry-of, variable-unbound, variable-long, looked-up, variable-found}
 use Rattle.rules.specs.Scope.{scope-words, entry-head, Binders}
 use Rattle.rules.specs.Variable.{Raisable}
-use Rattle.words.specs.Lookup.{partOf}
+use Rattle.words.specs.Lookup.{part-of}
 use Rattle.words.proofs.Places.{at-end}
 use Rattle.words.specs.Place.{Is}
 use Rattle.logic.specs.Term.{Term}
@@ -73,7 +73,7 @@ part : (c : tie.Joined3) (Γ : List Term) →
     let a = before-binder at-binder .args in
     (b : Binders (a .proof .now) (scope-words (a .floor) (a .used) (a .ws .now)) Γ) →
     Is
-    (partOf (a .proof .now) (a .ws .now) (ltb entry-head (getD (a .ws .now) (length (a .ws .now) - at-binder .binder .result) 0)) (c .if3 .from)
+    (part-of (a .proof .now) (a .ws .now) (ltb entry-head (getD (a .ws .now) (length (a .ws .now) - at-binder .binder .result) 0)) (c .if3 .from)
     (c .if3 .from + getD (a .ws .now) (length (a .ws .now) - at-binder .binder .result + 2) 0)) (entry-for at-else1 Γ b .type)
 part c Γ b =
     let at-else1 = before-else2 (before-joined3 c) in

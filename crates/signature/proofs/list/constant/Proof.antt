@@ -7,9 +7,9 @@ use lib.ListN.{length, take, drop, getD}
 use Rattle.logic.specs.Limits.{most-words, most-nesting}
 use Rattle.logic.specs.Term.{Term, kindPA}
 use Rattle.logic.specs.SignatureList.{constant as constant-type}
-use Rattle.typing.specs.Check.{Constants-of, typed-term, Judged}
-use Rattle.signature.specs.Listing.{passed}
-use Rattle.signature.proofs.Listings.{no-words, too-many, known-type, cut-off, not-typed, typed-kind}
+use Rattle.typing.specs.Check.{ConstantsOf, typed-term, Judged}
+use Rattle.signature.specs.Listing.{succeeded}
+use Rattle.signature.proofs.Listings.{no-length-word, too-many-words, known-type, cut-off, constant-not-typed, typed-kind}
 use native.Mathlib.Omega.{arith}
 use borrow.Author.Needs.{needs}
 use Rattle.signature.proofs.list.constant.Statement.{statement}
@@ -45,7 +45,7 @@ before-ws c = c .before
 judged : (c : tie.After-check-term) (Σ : List Term) →
     let at-start = before-else1 (before-else2 (before-else3 (before-common (before-check-term c)))) in
     let a = at-start .args in
-    Constants-of (a .sig .now) (a .table .now) Σ
+    ConstantsOf (a .sig .now) (a .table .now) Σ
     → Judged (typed-term Σ most-words most-nesting (take (getD (a .sig .now) (a .at) 0) (drop (a .at + 1) (a .sig .now))))
     (length (take (a .at + 1 + getD (a .sig .now) (a .at) 0 - (a .at + 1)) (drop (a .at + 1) (a .sig .now)))) (c .check-term .last .1 .1 .1 .1 .1 .0)
     (c .check-term .result)
@@ -67,12 +67,12 @@ cast-n : tie.Need-cast-n
 cast-n c = omega (arith, c .shared-slice-known3 .given (c .before .before .before .before .args .at))
 
 returns : tie.Need-returns
-returns c = let s = c .before .before .before .before .before in λ Σ C. no-words Σ (s .args .sig .now) (s .args .at) (s .pre .inside) (c .if1 .taken)
+returns c = let s = c .before .before .before .before .before in λ Σ C. no-length-word Σ (s .args .sig .now) (s .args .at) (s .pre .inside) (c .if1 .taken)
 
 returns-2 : tie.Need-returns-2
 returns-2 c =
     let s = before-else1 (c .before) in
-    λ Σ C. too-many Σ (s .args .sig .now) (s .args .at) (s .pre .inside) (c .if2 .taken)
+    λ Σ C. too-many-words Σ (s .args .sig .now) (s .args .at) (s .pre .inside) (c .if2 .taken)
 
 add-start : tie.Need-add-start
 add-start c = search needs
@@ -112,7 +112,7 @@ returns-4 c =
     let s = before-else1 at-else1 in
     let a = s .args in
     λ Σ C. known-type Σ (a .sig .now) (a .at) (s .pre .inside) (at-else1 .if1 .left) (at-else2 .if2 .left) (at-else3 .if3 .left)
-    (ap (λ (l : List ℕ). passed (constant-type Σ l)) (sym (lent (a .sig .now) (a .at))) ∙ at-common .common .ensures Σ (c .if4 .taken))
+    (ap (λ (l : List ℕ). succeeded (constant-type Σ l)) (sym (lent (a .sig .now) (a .at))) ∙ at-common .common .ensures Σ (c .if4 .taken))
 
 add-check-term : tie.Need-add-check-term
 add-check-term c = search needs
@@ -151,7 +151,7 @@ returns-5 c =
     let at-else2 = before-else3 at-else3 in
     let at-else1 = before-else2 at-else2 in
     let s = before-else1 at-else1 in
-    λ Σ C. not-typed Σ (s .args .sig .now) (s .args .at) (s .pre .inside) (at-else1 .if1 .left) (at-else2 .if2 .left) (at-else3 .if3 .left) _
+    λ Σ C. constant-not-typed Σ (s .args .sig .now) (s .args .at) (s .pre .inside) (at-else1 .if1 .left) (at-else2 .if2 .left) (at-else3 .if3 .left) _
     (at-check-term .check-term .result) _ _ _ (judged at-check-term Σ C) (c .enum-told .given .1)
 
 same-length-2 : tie.Need-same-length-2

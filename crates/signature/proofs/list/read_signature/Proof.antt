@@ -6,14 +6,14 @@ use borrow.Author.Tests.{not-true, not-false}
 use mathlib.Core.Path.{_≡_, refl, sym, _∙_}
 use lib.ListN.{length, drop, getD, length-set}
 use Rattle.signature.specs.Listing.{constant-at}
-use Rattle.signature.proofs.Listings.{Reading, reading-start, reading-full, reading-bad, reading-done, reading-more, more-inside}
+use Rattle.signature.proofs.Listings.{ReadUpTo, read-up-to-start, reading-full, reading-bad, reading-done, reading-more, more-inside}
 use borrow.Author.Needs.{needs}
 use native.Mathlib.Omega.{arith}
 use Rattle.signature.proofs.list.read_signature.Statement.{statement}
 use Rattle.signature.proofs.list.read_signature.Tie as tie
 
 abbrev Inv-loop : tie.InvT-loop
-Inv-loop sig table₀ ws₀ at₀ count₀ table ws at count = Reading sig table at count × (length table ≡ length table₀) × (length ws ≡ length ws₀)
+Inv-loop sig table₀ ws₀ at₀ count₀ table ws at count = ReadUpTo sig table at count × (length table ≡ length table₀) × (length ws ≡ length ws₀)
 
 abbrev μ-loop : tie.MeasureT-loop
 μ-loop sig table₀ ws₀ at₀ count₀ table ws at count = length sig - at
@@ -56,7 +56,7 @@ inside c =
     (v .inv .1 ∙ at-start .pre .entries) (fine c)
 
 loop-holds : tie.Need-loop-holds Inv-loop μ-loop
-loop-holds c = let s = c .before .before .before in (reading-start (s .args .sig .now) (s .args .table .now), refl, refl)
+loop-holds c = let s = c .before .before .before in (read-up-to-start (s .args .sig .now) (s .args .table .now), refl, refl)
 
 same-length : tie.Need-same-length Inv-loop μ-loop
 same-length c = search needs

@@ -8,8 +8,8 @@ use lib.ListN.{getD}
 use Rattle.logic.specs.Term.{Term}
 use Rattle.words.proofs.Places.{at-end}
 use Rattle.rules.specs.Scope.{Declared}
-use Rattle.rules.proofs.Atoms.{ConstantAt, constant-at}
-use Rattle.signature.proofs.Permits.{no-constant, compared}
+use Rattle.rules.proofs.Atoms.{ConstantAt, constant-placed}
+use Rattle.signature.proofs.Permits.{no-such-constant, compared}
 use borrow.Author.Needs.{needs}
 use Rattle.signature.proofs.operations.constant_is.Statement.{statement}
 use Rattle.signature.proofs.operations.constant_is.Tie as tie
@@ -19,7 +19,7 @@ here-for : (c : tie.Else1) (Σ : List Term) →
     Declared (c .before .before .before .before .args .sig .now) (c .before .before .before .before .args .table .now) Σ →
     ConstantAt (c .before .before .before .before .args .sig .now) (c .before .before .before .before .args .table .now)
     (c .before .before .before .before .args .i) Σ
-here-for c Σ d = constant-at (c .before .before .before .before .args .i) (c .if1 .left) d
+here-for c Σ d = constant-placed (c .before .before .before .before .args .i) (c .if1 .left) d
 
 here : (c : tie.Else1) →
     ConstantAt (c .before .before .before .before .args .sig .now) (c .before .before .before .before .args .table .now)
@@ -27,7 +27,7 @@ here : (c : tie.Else1) →
 here c = here-for c (c .before .before .before .before .pre .Σ) (c .before .before .before .before .pre .declared)
 
 returns : tie.Need-returns
-returns c = λ Σ A d w g. no-constant (c .before .before .before .before .args .i) A (c .if1 .taken) d
+returns c = λ Σ A d w g. no-such-constant (c .before .before .before .before .args .i) A (c .if1 .taken) d
 
 mul-start : tie.Need-mul-start
 mul-start c = search needs

@@ -10,9 +10,9 @@ use borrow.Author.Tests.{not-true, not-false}
 use lib.ListN.{getElem?}
 use Rattle.logic.specs.Term.{Term, P, S, Pi, encode}
 use Rattle.logic.specs.SignatureList.{permit, receipt-of, is-type, operations}
-use Rattle.logic.proofs.Words.{InRange}
+use Rattle.logic.specs.Reading.{InRange}
 use Rattle.rules.specs.Scope.{Declared}
-use Rattle.signature.proofs.Permits.{no-operation, too-many-operations, no-permit, no-receipt, all-operations, no-operations, one-operation}
+use Rattle.signature.proofs.Permits.{too-few-operations, too-many-operations, no-permit, no-receipt, all-operations, no-operations, one-operation}
 use Rattle.signature.proofs.operations.operations.Statement.{statement}
 use Rattle.signature.proofs.operations.operations.Tie as tie
 
@@ -50,7 +50,7 @@ unfolding encode InRange
 receipt-is c Σ d = c .constant-is2 .ensures Σ (Pi S (Pi S P)) d refl (tt, (tt, tt))
 
 returns : tie.Need-returns Inv-loop μ-loop
-returns c = λ Σ d. no-operation Σ (c .before .before .before .args .n) (c .if1 .taken)
+returns c = λ Σ d. too-few-operations Σ (c .before .before .before .args .n) (c .if1 .taken)
 
 returns-2 : tie.Need-returns-2 Inv-loop μ-loop
 returns-2 c = λ Σ d. too-many-operations Σ (c .before .before .before .before .args .n) (c .if2 .taken)

@@ -6,8 +6,8 @@ use mathlib.Core.List.{List}
 use borrow.Author.Tests.{not-true, not-false}
 use Rattle.logic.specs.Term.{propA, Term, P}
 use Rattle.logic.specs.Infer.{same}
-use Rattle.typing.specs.Check.{Constants-of}
-use Rattle.typing.proofs.Statements.{Typed-as, statement-refused, statement-typed, no-proposition, long-statement, short-statement}
+use Rattle.typing.specs.Check.{ConstantsOf}
+use Rattle.typing.proofs.Statements.{TypedAs, statement-refused, statement-typed, no-proposition, long-statement, short-statement}
 use native.Mathlib.Omega.{arith}
 use borrow.Author.Needs.{needs}
 use Rattle.typing.proofs.check.check_statement.Statement.{statement}
@@ -32,7 +32,7 @@ typed : (c : tie.After-front-is) (Σ : List Term) (a : ℕ) →
     let at-typed2 = c .before .before .before in
     let at-check-term = before-typed2 at-typed2 in
     let at-start = before-shared-slice-known (before-check-term at-check-term) in
-    Constants-of (at-start .args .sig .now) (at-start .args .table .now) Σ → Typed-as Σ a (at-start .args .proposition .now)
+    ConstantsOf (at-start .args .sig .now) (at-start .args .table .now) Σ → TypedAs Σ a (at-start .args .proposition .now)
     (at-check-term .check-term .last .1 .1 .1 .1 .1 .0) (at-typed2 .typed2 .given .0 .0)
 typed c Σ a C =
     let at-typed2 = c .before .before .before in
@@ -44,7 +44,7 @@ typed c Σ a C =
 -- the test of its type
 proposed : (c : tie.After-front-is) →
     let at-start = before-shared-slice-known (before-check-term (before-match-keys2 (c .before .before .before .before))) in
-    (Σ : List Term) (a : ℕ) (C : Constants-of (at-start .args .sig .now) (at-start .args .table .now) Σ) →
+    (Σ : List Term) (a : ℕ) (C : ConstantsOf (at-start .args .sig .now) (at-start .args .table .now) Σ) →
     c .front-is .result ≡ same (typed c Σ a C .A) P
 proposed c Σ a C = let S = typed c Σ a C in c .front-is .ensures (S .A) propA (S .type) refl tt
 

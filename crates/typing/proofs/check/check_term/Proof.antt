@@ -9,9 +9,9 @@ use Rattle.words.specs.Parsing.{parse-answer}
 use Rattle.words.specs.Nesting.{nesting-answer}
 use Rattle.words.proofs.Places.{is-at}
 use Rattle.words.proofs.Nestings.{within-is}
-use Rattle.typing.specs.Derive.{Ready}
-use Rattle.typing.specs.Check.{Constants-of}
-use Rattle.typing.proofs.Checks.{empty-term, long-term, malformed-term, deep-term, inferred-term, Term-in, term-in, ready-term, judged-term}
+use Rattle.typing.specs.Derive.{SubjectAt}
+use Rattle.typing.specs.Check.{ConstantsOf}
+use Rattle.typing.proofs.Checks.{empty-term, long-term, malformed-term, deep-term, inferred-term, TermIn, term-in, ready-term, judged-term}
 use native.Mathlib.Omega.{arith}
 use borrow.Author.Needs.{needs}
 use Rattle.typing.proofs.check.check_term.Statement.{statement}
@@ -34,7 +34,7 @@ before-match2-keys2 c = c .before .before
 -- the term that was read
 read : (c : tie.After-enum-told) →
     let at-start = before-else1 (before-else2 (before-enum-told c)) in
-    Term-in (at-start .args .term .now)
+    TermIn (at-start .args .term .now)
 read c =
     let at-start = before-else1 (before-else2 (before-enum-told c)) in
     term-in (at-start .args .term .now) _ (sym (c .before .before .read-whole .ensures) ∙ ap parse-answer (c .enum-told .given .1))
@@ -51,7 +51,7 @@ ready : (c : tie.After-enum-told2) (ws : List ℕ) (Σ : List Term) →
     let at-enum-told = c .before .before .before in
     let at-start = before-else1 (before-else2 (before-enum-told at-enum-told)) in
     let a = at-start .args in
-    Constants-of (a .sig .now) (a .table .now) Σ → Ready (a .sig .now) (a .table .now) (a .term .now) ws 0 0 0 (a .deep) Σ [] (read at-enum-told .term)
+    ConstantsOf (a .sig .now) (a .table .now) Σ → SubjectAt (a .sig .now) (a .table .now) (a .term .now) ws 0 0 0 (a .deep) Σ [] (read at-enum-told .term)
 ready c ws Σ C =
     let at-enum-told = c .before .before .before in
     let at-start = before-else1 (before-else2 (before-enum-told at-enum-told)) in

@@ -14,16 +14,16 @@ use Rattle.logic.specs.Infer.{infer}
 use Rattle.logic.proofs.Searches.{depth-pos}
 use Rattle.words.specs.Place.{At}
 use Rattle.words.proofs.Places.{at-kind, at-end, at-left}
-use Rattle.logic.proofs.Shapes.{headKind}
+use Rattle.logic.proofs.Shapes.{term-kind}
 use Rattle.rules.specs.Rule.{within}
 use Rattle.rules.specs.Form.{level-words}
-use Rattle.typing.specs.Derive.{Ready, Derived}
+use Rattle.typing.specs.Derive.{SubjectAt, Derived}
 use Rattle.rules.specs.declared.derivation.Derivation.{Derivation}
 use Rattle.rules.specs.declared.derivation.Derivation.the-variants.{Refused}
 use Rattle.typing.proofs.Tails.{rest-of, whole-of, rest-length, whole-length}
-use Rattle.typing.proofs.Derives.{Derives, carried, Between, between, Inside, inside, signed-in, sign-derived, sign-refused, sign-ready}
+use Rattle.typing.proofs.Derives.{Derives, carried, BetweenChildren, between-children, Inside, inside-node, signed-in, sign-derived, sign-refused, sign-ready}
 use Rattle.typing.proofs.Derives.{first-ready, two-deep, second-ready, level, atom-derived, variable-derived, first-refusal, test-refusal}
-use Rattle.typing.proofs.Derives.{second-refusal, formable, forms-here, node-derived, NodeAt, SignAt}
+use Rattle.typing.proofs.Derives.{second-refusal, formable, forms-here, node-derived, NodeSubject, SignSubject}
 use Rattle.typing.proofs.derive.derive.Reads as derive
 use Rattle.typing.proofs.derive.derive.Kinds as kinds
 use Rattle.typing.proofs.derive.+derive.Lts-derive as lts
@@ -76,7 +76,7 @@ calls t = (
 -- the words lent, for a term
 abbrev Here : (t : ℕ) (s : lts.Start (calls t) (given t) derive.Post) → List Term → List Term → Term → Type 0
 Here t s Σ Γ u =
-    Ready (s .args .sig .now) (s .args .table .now) (s .args .proof .now) (s .args .ws .now) (s .args .floor) (s .args .used) (s .args .at)
+    SubjectAt (s .args .sig .now) (s .args .table .now) (s .args .proof .now) (s .args .ws .now) (s .args .floor) (s .args .used) (s .args .at)
     (s .args .left) Σ Γ u
 
 -- what it ensures of a term
@@ -132,12 +132,12 @@ before-second t c = c .before .before .before .before
 
 kind-known : (t : ℕ) (c : lts.After-kind (calls t) (given t) derive.Post) (u : Term) →
     let at-start = before-shared-slice-known t (before-kind t c) in
-    At (at-start .args .proof .now) (at-start .args .at) u → c .kind .result ≡ headKind u
+    At (at-start .args .proof .now) (at-start .args .at) u → c .kind .result ≡ term-kind u
 kind-known t c u h = c .kind .ensures ∙ at-kind h
 
 abbrev SignHere : (t : ℕ) (s : lts.Start (calls t) (given t) derive.Post) → Type 0
 SignHere t s =
-    SignAt (s .args .sig .now) (s .args .table .now) (s .args .proof .now) (s .args .ws .now) (s .args .floor) (s .args .used) (s .args .at)
+    SignSubject (s .args .sig .now) (s .args .table .now) (s .args .proof .now) (s .args .ws .now) (s .args .floor) (s .args .used) (s .args .at)
     (s .args .left) (s .pre .1 .Σ) (s .pre .1 .Γ)
 
 sign-at : (t : ℕ) (c : lts.Then3 (calls t) (given t) derive.Post) →
@@ -162,7 +162,7 @@ as-node t c Σ Γ u F R f =
 
 abbrev NodeHere : (t : ℕ) (s : lts.Start (calls t) (given t) derive.Post) → Type 0
 NodeHere t s =
-    NodeAt (s .args .sig .now) (s .args .table .now) (s .args .proof .now) (s .args .ws .now) (s .args .floor) (s .args .used) (s .args .at)
+    NodeSubject (s .args .sig .now) (s .args .table .now) (s .args .proof .now) (s .args .ws .now) (s .args .floor) (s .args .used) (s .args .at)
     (s .args .left) (s .pre .1 .Σ) (s .pre .1 .Γ)
 
 -- of the term that `requires` brought
@@ -182,7 +182,7 @@ child-within t c = let M = node-at t c in let a = at-end (at-left (M .ready-node
 
 child-known : (t : ℕ) (c : lts.After-kind2 (calls t) (given t) derive.Post) (u : Term) →
     let at-start = before-shared-slice-known t (before-kind t (before-else3 t (c .before .before))) in
-    At (at-start .args .proof .now) (at-start .args .at + 1) u → c .kind2 .result ≡ headKind u
+    At (at-start .args .proof .now) (at-start .args .at + 1) u → c .kind2 .result ≡ term-kind u
 child-known t c u h = c .kind2 .ensures ∙ at-kind h
 
 -- the first child is derived, by either way
@@ -219,9 +219,9 @@ module _ (t : ℕ) {Σ Γ : List Term} {o : Op} {a b : Term} where
   first-typed : (c : lts.After-first (calls t) (given t) derive.Post) →
       let at-joined4 = before-first t c in
       let at-start = before-shared-slice-known t (before-kind t (before-else3 t (before-joined4 t at-joined4))) in
-      Here t at-start Σ Γ (node o a b) → Between (at-start .args .proof .now) (at-start .args .ws .now) (at-joined4 .if4 .ws) (at-start .args .used)
+      Here t at-start Σ Γ (node o a b) → BetweenChildren (at-start .args .proof .now) (at-start .args .ws .now) (at-joined4 .if4 .ws) (at-start .args .used)
       (at-start .args .at) (c .first .given .0 .1 .0) (c .first .given .0 .0) Σ Γ o a
-  first-typed c R = between R _ (c .before .before .if4 .first) _ _ (first-derives t (c .before .before)) (c .first .given .1)
+  first-typed c R = between-children R _ (c .before .before .if4 .first) _ _ (first-derives t (c .before .before)) (c .first .given .1)
 
   -- the test on it passed
   test-passed : (c : lts.After-entered (calls t) (given t) derive.Post) →
@@ -236,7 +236,7 @@ module _ (t : ℕ) {Σ Γ : List Term} {o : Op} {a b : Term} where
       let at-enter = before-entered t c in
       let at-first = before-enter t at-enter in
       let B = first-typed at-first R in
-      inside o _ a (B .type) _ _ _ _ (at-enter .enter .result) _ _ (at-enter .enter .ensures o a (B .type) (B .enters)) (c .entered .given .1)
+      inside-node o _ a (B .type) _ _ _ _ (at-enter .enter .result) _ _ (at-enter .enter .ensures o a (B .type) (B .enters)) (c .entered .given .1)
 
   level-kept : (c : lts.After-entered (calls t) (given t) derive.Post) →
       let at-start = before-shared-slice-known t (before-kind t (before-else3 t (before-joined4 t (before-first t (before-enter t (before-entered t c)))))) in
@@ -251,7 +251,7 @@ module _ (t : ℕ) {Σ Γ : List Term} {o : Op} {a b : Term} where
       let at-first = before-enter t at-enter in
       let at-start = before-shared-slice-known t (before-kind t (before-else3 t (before-joined4 t (before-first t at-first)))) in
       (R : Here t at-start Σ Γ (node o a b)) →
-      Ready (at-start .args .sig .now) (at-start .args .table .now) (at-start .args .proof .now)
+      SubjectAt (at-start .args .sig .now) (at-start .args .table .now) (at-start .args .proof .now)
       (rest-of (c .entered .given .0 .0) (at-enter .enter .last .1 .0)) (at-start .args .floor) (c .entered .given .0 .1 .0)
       (at-first .first .given .0 .1 .0) (at-start .args .left - 1) Σ (within o a (first-typed at-first R .type) Γ) b
   second-ready-here c R =
