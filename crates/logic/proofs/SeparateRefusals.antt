@@ -16,7 +16,8 @@ use Rattle.logic.specs.Faults.{in-ret-proof, bad-ret-proof, long-ret, in
 use Rattle.logic.specs.Infer.{infer, same-term, conclusion}
 use Rattle.logic.specs.Reading.{Plain, read, too-deep}
 use Rattle.logic.specs.SignatureList.{constants}
-use Rattle.logic.specs.SeparateRefusals.{Separate, separate-function, separate-argument, separate-escape, Subterm, itself, under-sign, under-first, under-says, under-pi, under-lam}
+use Rattle.logic.specs.SeparateRefusals.{Separate, separate-function, separate-argument, separate-escape, Subterm, itself, under-sign}
+use Rattle.logic.specs.SeparateRefusals.{under-first, under-says, under-pi, under-lam}
 use Rattle.logic.specs.SeparateRefusals.{under-app, under-ret, under-bind, SeparateAt, SeparateRefusals, SeparateExamples}
 use Rattle.logic.proofs.Completeness.{infer-right}
 use Rattle.logic.proofs.Faults.{refuses, infer-refused}

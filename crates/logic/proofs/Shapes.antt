@@ -18,10 +18,10 @@ use Rattle.logic.proofs.Words.{head, shape-first}
 -- ---- the table of tags, as digits of a number
 
 -- the digit of a tag
-abbrev pub digit : ℕ → ℕ → ℕ
+abbrev digit : ℕ → ℕ → ℕ
 digit table tag = table / 2 ^ (tag * 4) % 16
 
-abbrev pub both : Bool → Bool → Bool
+abbrev both : Bool → Bool → Bool
 both true b = b
 both false b = false
 
@@ -47,7 +47,7 @@ below-at f zero e k h = absurd (omega arith)
 below-at f (suc n) e k h = below-step f n k (eqb k n) refl (both-left (f n) (below f n) e) (below-at f n (both-right (f n) (below f n) e) k) h
 
 -- a digit says what g tells of the words with its tag and a payload
-abbrev pub right : (WordShape → ℕ) → ℕ → ℕ → ℕ → Bool
+abbrev right : (WordShape → ℕ) → ℕ → ℕ → ℕ → Bool
 right g table p tag = eqb (digit table tag) (g (shape-of-tag tag p))
 
 digit-at : (g : WordShape → ℕ) (table p tag : ℕ) → below (right g table p) 16 ≡ true → tag ≤ tag-bind → digit table tag ≡ g (shape-of-tag tag p)

@@ -25,7 +25,8 @@ pub data Separate (Σ Γ : List Term) : Term → ℕ → Type 0 where
   -- an App whose argument has another type than the domain
   separate-argument : {f e d B E : Term} → HasMeasured Σ Γ f (Pi d B) → HasMeasured Σ Γ e E → E ≢ d → Separate Σ Γ (App f e) 19
   -- a Bind whose body the right principal says, with variable 0 in what it says
-  separate-escape : {e b a q r : Term} → HasMeasured Σ Γ e (Says a q) → HasMeasured Σ (q ∷ Γ) b (Says (raise 1 a) r) → occurs 0 r ≢ 0 → Separate Σ Γ (Bind e b) 20
+  separate-escape : {e b a q r : Term} → HasMeasured Σ Γ e (Says a q) → HasMeasured Σ (q ∷ Γ) b (Says (raise 1 a) r) → occurs 0 r ≢ 0
+      → Separate Σ Γ (Bind e b) 20
 
 -- Subterm Σ Γ t i Δ s: in the term t, of the scope Γ, the term s begins at the word index i, and Δ is its scope
 pub data Subterm (Σ : List Term) : List Term → Term → ℕ → List Term → Term → Type 0 where

@@ -9,7 +9,7 @@ use words::part::skip;
 ghost use mathlib.Core.Path.{_≡_};
 ghost use Prim.Native.Nat.{_+_};
 ghost use Rattle.logic.specs.Term.{Term, size};
-ghost use Rattle.logic.specs.Move.{occurs as occursIn};
+ghost use Rattle.logic.specs.Move.{occurs as occurs-in};
 ghost use Rattle.words.specs.Place.{At};
 ghost use Rattle.moves.specs.Occurrence.{TermSearchable, occurrence-answer, absent};
 
@@ -22,7 +22,7 @@ pub enum Occurrence {
 // Whether variable c occurs in the term that stands at `at`.
 pub fn occurs(words: &[u32], at: usize, c: u32) -> Occurrence
     requires { ⌜ TermSearchable (now words) at c ⌝ }
-    ensures { λ r. ⌜ ((t : Term) → At (now (words .entry)) at t → occurrence-answer r ≡ absent (at + size t) (occursIn c t)) ⌝ }
+    ensures { λ r. ⌜ ((t : Term) → At (now (words .entry)) at t → occurrence-answer r ≡ absent (at + size t) (occurs-in c t)) ⌝ }
 {
     let word = words[at];
     let k = kind(word);

@@ -14,7 +14,7 @@ ghost use lib.IntN.{natAbs};
 ghost use lib.Dec.{ltb};
 ghost use Rattle.logic.specs.Limits.{payloads};
 ghost use Rattle.logic.specs.Term.{Term};
-ghost use Rattle.logic.specs.Move.{moved as movedBy};
+ghost use Rattle.logic.specs.Move.{moved as moved-by};
 ghost use Rattle.words.specs.Place.{At, Is};
 ghost use Rattle.moves.specs.Shift.{Shiftable, ShiftableWhole, Shifted};
 
@@ -22,7 +22,7 @@ ghost use Rattle.moves.specs.Shift.{Shiftable, ShiftableWhole, Shifted};
 // the amount are added as i32, and both casts are lossless.
 fn moved(n: u32, c: u32, amount: i32) -> u32
     requires { ⌜ (n < payloads) × (natAbs amount ≤ payloads) ⌝ }
-    ensures { λ r. ⌜ (r ≡ cond (ltb n c) n (movedBy amount n)) × (r ≤ payloads + payloads) ⌝ }
+    ensures { λ r. ⌜ (r ≡ cond (ltb n c) n (moved-by amount n)) × (r ≤ payloads + payloads) ⌝ }
 {
     if n < c {
         return n;

@@ -143,7 +143,16 @@ module _ (proof ws : List ℕ) (used at next n m end : ℕ) where
         let s : size (p .A) ≡ suc (size (first-child (p .A)) + size (second-child (p .A))) = ap size (j .first-type .0) in
         let k = j .first-words in
         let b = p .small-first in
-        record { p = first-child (p .A); q = second-child (p .A); B = p .B; binds = bind-says j; small = p .small-second; small-kept = omega arith; room = omega arith }
+        record {
+          p = first-child (p .A);
+          q = second-child (p .A);
+          B = p .B;
+          binds = bind-says j;
+          small = p .small-second;
+          small-kept = omega arith;
+          room =
+              omega arith;
+        }
 
     pub pairable : (o′ : Op) → keep-of o′ n ≡ 0 → eqb (getD proof at 0) (op-word o′) ≡ true → Pairable proof ws at next m
     pairable o′ z e =
@@ -216,4 +225,5 @@ module _ (proof ws : List ℕ) (used at next n m end : ℕ) where
         pub formed-no-pi : kind ≡ false → (o : Op) (a b A B : Term) → Forms proof ws used at next n m end o a b A B
             → TypeFormed (node-type o at a b A B) end ws ws (Refused condition-fails at)
         unfolding node-type
-        formed-no-pi t = by-pi (Refused condition-fails at) (λ a b A B j. formed-refused _ condition-fails at end ws (fail _ at _ (body-is (j .second-type) ∙ t)))
+        formed-no-pi t =
+            by-pi (Refused condition-fails at) (λ a b A B j. formed-refused _ condition-fails at end ws (fail _ at _ (body-is (j .second-type) ∙ t)))

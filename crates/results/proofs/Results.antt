@@ -181,7 +181,8 @@ module _ (proof ws : List ℕ) (at next m end : ℕ) (o : Op) (a B : Term) (j : 
     pair-long l = let z = pair-size in formed-refused _ type-too-long at end ws (pair-measured _ (measured-long at _ (omega arith)))
 
     -- the type is copied out of the way, the head word and the first child are written, and the type behind them
-    pub pair-done : (head : ℕ) (aside mid new : List ℕ) → head ≡ op-word o → next - at + m ≤ most-type-words → front-words ≤ length ws → length aside ≡ length ws
+    pub pair-done : (head : ℕ) (aside mid new : List ℕ) → head ≡ op-word o → next - at + m ≤ most-type-words → front-words ≤ length ws
+        → length aside ≡ length ws
         → aside ≡ written-at ws most-type-words (take m (drop 0 ws))
         → mid ≡ written-at (set aside 0 head) 1 (take (next - at - 1) (drop (at + 1) proof))
         → new ≡ written-at mid (next - at) (take m (drop most-type-words mid)) → TypeFormed (pair-type at o a B) end ws new (Typed (next - at + m) end)
@@ -224,7 +225,7 @@ plain-lower c (node o a b) p = (plain-lower c a (p .0), plain-lower (under (bind
 
 -- a type that is a node is no sort
 -- B is a type that the raised principal p says
-pub record Said (p B : Term) : Type 0 where
+pub record SaidBy (p B : Term) : Type 0 where
   pub right : Term
   pub is : B ≡ Says (raise 1 p) right
 
@@ -245,7 +246,7 @@ says-first B (inr (inl q)) e = let w : first-word KindP ≡ op-word saysO = ap f
 says-first B (inr (inr q)) e = let w : first-word KindT ≡ op-word saysO = ap first-word (sym q) ∙ e in absurd (omega arith)
 
 -- a type that begins with the word Says and the principal's words
-said-by : (ws : List ℕ) (k : ℕ) (p B : Term) → TypeAt ws 0 B → Plain (raise 1 p) → take k ws ≡ op-word saysO ∷ encode (raise 1 p) → Said p B
+said-by : (ws : List ℕ) (k : ℕ) (p B : Term) → TypeAt ws 0 B → Plain (raise 1 p) → take k ws ≡ op-word saysO ∷ encode (raise 1 p) → SaidBy p B
 unfolding encode InRange
 said-by ws k p B h r e =
     let w : ws ≡ op-word saysO ∷ (encode (raise 1 p) ++ drop k ws) = sym (take-append-drop k ws) ∙ ap (λ (l : List ℕ). l ++ drop k ws) e in
@@ -257,7 +258,7 @@ said-by ws k p B h r e =
     (sym (append-assoc (encode (s .left)) (encode (s .right)) (h .rest)) ∙ tail-eq-of-cons-eq b) .0 in
     record { right = s .right; is = s .is ∙ ap (λ (t : Term). Says t (s .right)) l }
 
-said-words : (ws : List ℕ) (k : ℕ) (p B : Term) → TypeAt ws 0 B → k ≡ 1 + size p → Said p B → take k ws ≡ op-word saysO ∷ encode (raise 1 p)
+said-words : (ws : List ℕ) (k : ℕ) (p B : Term) → TypeAt ws 0 B → k ≡ 1 + size p → SaidBy p B → take k ws ≡ op-word saysO ∷ encode (raise 1 p)
 unfolding encode
 said-words ws k p B h e s =
     let z : length (encode (raise 1 p)) ≡ size p = length-shift 0 (pos 1) p in
@@ -266,7 +267,7 @@ said-words ws k p B h e s =
     ∙ ap (λ (l : List ℕ). op-word saysO ∷ l) (append-assoc (encode (raise 1 p)) (encode (s .right)) (h .rest)))
     ∙ take-at (op-word saysO ∷ encode (raise 1 p)) (encode (s .right) ++ h .rest) k n
 
-bound-unsaid : (at : ℕ) (p B : Term) → (Said p B → ⊥) → bind-type at p B ≡ refused condition-fails at
+bound-unsaid : (at : ℕ) (p B : Term) → (SaidBy p B → ⊥) → bind-type at p B ≡ refused condition-fails at
 bound-unsaid at p (atom a) n = refl
 bound-unsaid at p (var k) n = refl
 bound-unsaid at p (sign k q) n = refl
@@ -277,7 +278,7 @@ bound-unsaid at p (node appO x y) n = refl
 bound-unsaid at p (node retO x y) n = refl
 bound-unsaid at p (node bindO x y) n = refl
 
-bound-said : (at : ℕ) (p B : Term) (s : Said p B) (o : Result Term)
+bound-said : (at : ℕ) (p B : Term) (s : SaidBy p B) (o : Result Term)
     → (require (eqb (occurs 0 (s .right)) 0) variable-escapes at >> measured at (Says p (lower (s .right)))) ≡ o → bind-type at p B ≡ o
 bound-said at p B s o e = ap (bind-type at p) (s .is) ∙ pass condition-fails at (same-yes refl) e
 
@@ -301,11 +302,11 @@ module _ (ws : List ℕ) (used at m end : ℕ) (p q B : Term) (j : Binds ws used
       let d : length ((encode (raise 1 p) ++ encode q) ++ j .rest) ≡ length (encode (raise 1 p)) + length (encode q) + length (j .rest) = simp length-append in
       omega arith
 
-  unsaid : (Said p B → ⊥) → TypeFormed (bind-type at p B) end ws ws (Refused condition-fails at)
+  unsaid : (SaidBy p B → ⊥) → TypeFormed (bind-type at p B) end ws ws (Refused condition-fails at)
   unsaid n = formed-refused _ condition-fails at end ws (bound-unsaid at p B n)
 
   module _ (said : ℕ) (e : said ≡ 1 + size p) where
-    pub said-size : (s : Said p B) → m ≡ said + size (s .right)
+    pub said-size : (s : SaidBy p B) → m ≡ said + size (s .right)
     unfolding size
     said-size s =
         let z : size (raise 1 p) ≡ size p = size-shift 0 (pos 1) p in
@@ -333,7 +334,7 @@ module _ (ws : List ℕ) (used at m end : ℕ) (p q B : Term) (j : Binds ws used
 
     module _ (agree : take said ws ≡ take (length ws - used + entry-head + said - (length ws - used + entry-head)) (drop (length ws - used + entry-head) ws))
       where
-        pub saying : Said p B
+        pub saying : SaidBy p B
         saying = said-by ws said p B (j .type) (j .principal) (agree ∙ kept-part)
 
         pub said-at : At ws 0 B
@@ -347,7 +348,8 @@ module _ (ws : List ℕ) (used at m end : ℕ) (p q B : Term) (j : Binds ws used
 
         module _ (r : Option ℕ) (f : r ≡ absent (said + size (saying .right)) (occurs 0 (saying .right))) where
           pub bind-present : r ≡ none → TypeFormed (bind-type at p B) end ws ws (Refused variable-escapes at)
-          bind-present t = formed-refused _ variable-escapes at end ws (bound-said at p B saying _ (fail _ at _ (present-is (occurs 0 (saying .right)) _ (sym t ∙ f))))
+          bind-present t =
+              formed-refused _ variable-escapes at end ws (bound-said at p B saying _ (fail _ at _ (present-is (occurs 0 (saying .right)) _ (sym t ∙ f))))
 
           pub bind-absent : (k : ℕ) (new : List ℕ) (words : ℕ) → r ≡ some k → m ≤ most-type-words → Shifted B 0 (negsuc 0) ws 0 new words
               → TypeFormed (bind-type at p B) end ws new (Typed words end)

@@ -89,7 +89,9 @@ abbrev pub First : Op → List ℕ → (b A B : Term) → Type 0
 First saysO ws b A B = Unit {0}
 First piO ws b A B = Unit {0}
 First lamO ws b A B = Unit {0}
-First appO ws b A B = (A ≡ Pi (first-child A) (second-child A)) × TypeAt ws 0 A × (B ≡ first-child A → size (fill (second-child A) b) ≤ most-type-words → PlainType (fill (second-child A) b))
+First appO ws b A B =
+    (A ≡ Pi (first-child A) (second-child A)) × TypeAt ws 0 A ×
+    (B ≡ first-child A → size (fill (second-child A) b) ≤ most-type-words → PlainType (fill (second-child A) b))
 First retO ws b A B = Unit {0}
 First bindO ws b A B = (A ≡ Says (first-child A) (second-child A)) × Plain (raise 1 (first-child A))
 

@@ -14,7 +14,7 @@ use logic::word::SAYS;
 use rules::derivation::Derivation;
 use rules::front::front_is;
 ghost use Rattle.logic.specs.Term.{Op, Term};
-ghost use Rattle.rules.specs.Rule.{node-type as formedBy};
+ghost use Rattle.rules.specs.Rule.{node-type};
 ghost use Rattle.rules.specs.Form.{TypeFormed};
 ghost use Rattle.results.specs.Results.{Forms, Formable};
 
@@ -33,7 +33,7 @@ pub fn formed(
 ) -> Derivation
     requires { ⌜ Formable (now proof) (now ws) used at next n m end ⌝ }
     ensures { λ r. ⌜ ((o : Op) → (a b A B : Term) → Forms (now (proof .entry)) (now (ws .entry)) used at next n m end o a b A B
-        → TypeFormed (formedBy o at a b A B) end (now (ws .entry)) (now (ws .exit)) r) ⌝ }
+        → TypeFormed (node-type o at a b A B) end (now (ws .entry)) (now (ws .exit)) r) ⌝ }
 {
     let word = proof[at];
     let is_app = word == APP;

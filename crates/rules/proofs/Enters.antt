@@ -286,7 +286,8 @@ module _ {proof ws : List ℕ} {at next n : ℕ} {o : Op} {a A : Term} (used : �
   domain-is : (b : Bool) → Answers b → b ≡ domain A
   domain-is b f = f A (j .type .plain) front-first
 
-  pub binder-passes : {new : List ℕ} {r k : ℕ} {b : Bool} → (tag-of (getD proof at 0) ≡ tag-bind → ⊥) → k ≡ shape-kind (word-shape (getD proof at 0)) → k ≡ kind-binder
+  pub binder-passes : {new : List ℕ} {r k : ℕ} {b : Bool} → (tag-of (getD proof at 0) ≡ tag-bind → ⊥) → k ≡ shape-kind (word-shape (getD proof at 0))
+      → k ≡ kind-binder
       → b ≡ true → Answers b → Kept (entry-head ∷ (at + 1) ∷ (next - (at + 1)) ∷ []) used ws new r → Entering o at a A n used ws new (Fits 0 r)
   binder-passes {new} {r} {k} {b} t e i d f g =
       let w : n ≡ size A = j .type-words in
@@ -298,14 +299,17 @@ module _ {proof ws : List ℕ} {at next n : ℕ} {o : Op} {a A : Term} (used : �
       (omega arith)
       (j .type)
 
-  pub binder-fails : {k : ℕ} {b : Bool} → (tag-of (getD proof at 0) ≡ tag-bind → ⊥) → k ≡ shape-kind (word-shape (getD proof at 0)) → k ≡ kind-binder → b ≡ false
+  pub binder-fails : {k : ℕ} {b : Bool} → (tag-of (getD proof at 0) ≡ tag-bind → ⊥) → k ≡ shape-kind (word-shape (getD proof at 0)) → k ≡ kind-binder
+      → b ≡ false
       → Answers b → Entering o at a A n used ws ws (Fails condition-fails)
   binder-fails {k} {b} t e i d f = fails (binder-rule o at a A n _ (j .head) t (kind-found k e ∙ i)) used ws (ap (condition at) (sym (domain-is b f) ∙ d))
 
-  pub plain-passes : {k : ℕ} {b : Bool} → (tag-of (getD proof at 0) ≡ tag-app → ⊥) → k ≡ shape-kind (word-shape (getD proof at 0)) → (k ≡ kind-binder → ⊥) → b ≡ true
+  pub plain-passes : {k : ℕ} {b : Bool} → (tag-of (getD proof at 0) ≡ tag-app → ⊥) → k ≡ shape-kind (word-shape (getD proof at 0)) → (k ≡ kind-binder → ⊥)
+      → b ≡ true
       → b ≡ same A N → Entering o at a A n used ws ws (Fits 0 used)
   plain-passes {k} t e q d f = passes-none (plain-rule o at a A n _ (j .head) t (λ i. q (sym (kind-found k e) ∙ i))) (ap (condition at) (sym f ∙ d))
 
-  pub plain-fails : {k : ℕ} {b : Bool} → (tag-of (getD proof at 0) ≡ tag-app → ⊥) → k ≡ shape-kind (word-shape (getD proof at 0)) → (k ≡ kind-binder → ⊥) → b ≡ false
+  pub plain-fails : {k : ℕ} {b : Bool} → (tag-of (getD proof at 0) ≡ tag-app → ⊥) → k ≡ shape-kind (word-shape (getD proof at 0)) → (k ≡ kind-binder → ⊥)
+      → b ≡ false
       → b ≡ same A N → Entering o at a A n used ws ws (Fails condition-fails)
   plain-fails {k} t e q d f = fails (plain-rule o at a A n _ (j .head) t (λ i. q (sym (kind-found k e) ∙ i))) used ws (ap (condition at) (sym f ∙ d))

@@ -110,7 +110,8 @@ passed-none {proof} {ws} {floor} {used} {Γ} n l b =
 -- n entries are passed
 pub passed-n : {proof ws : List ℕ} {floor used kept : ℕ} {Γ : List Term} (left n : ℕ) → left ≡ 0 → BinderFound proof ws floor used (n - left) Γ kept
     → BinderFound proof ws floor used n Γ kept
-passed-n {proof} {ws} {floor} {used} {kept} {Γ} left n z f = let e : n - left ≡ n = omega arith in subst (λ (i : ℕ). BinderFound proof ws floor used i Γ kept) e f
+passed-n {proof} {ws} {floor} {used} {kept} {Γ} left n z f =
+    let e : n - left ≡ n = omega arith in subst (λ (i : ℕ). BinderFound proof ws floor used i Γ kept) e f
 
 -- an entry ends within the words of the scope
 pub record EntryStep (ws : List ℕ) (floor kept : ℕ) : Type 0 where
@@ -151,7 +152,8 @@ no-binders proof h Γ e (in-proof a b) = absurd (clash (cc))
 no-binders proof h Γ e (in-workspace x p one b) = absurd (clash (cc))
 
 -- no binder is left
-pub passed-all : {proof ws : List ℕ} {floor used kept : ℕ} {Γ : List Term} (left n : ℕ) → left ≤ n → kept ≤ floor → BinderFound proof ws floor used (n - left) Γ kept
+pub passed-all : {proof ws : List ℕ} {floor used kept : ℕ} {Γ : List Term} (left n : ℕ) → left ≤ n → kept ≤ floor
+    → BinderFound proof ws floor used (n - left) Γ kept
     → BinderFound proof ws floor used n Γ floor
 passed-all {proof} {ws} {floor} {used} {kept} {Γ} left n m h f =
     let least : floor ≤ kept = f .least in

@@ -43,10 +43,10 @@ abbrev pub Raises : List Term → ℕ → Type 0
 Raises Γ n = (A : Term) → getElem? Γ n ≡ some A → size A ≤ most-type-words → PlainType (raise (suc n) A)
 
 -- the words of a binder's type, in the proof or in the workspace, and room for them
-pub record Raisable (proof ws : List ℕ) (inHeld : Bool) (from words n at room : ℕ) : Type 0 where
+pub record Raisable (proof ws : List ℕ) (in-held : Bool) (from words n at room : ℕ) : Type 0 where
   pub type : Term
-  pub part : Is (part-of proof ws inHeld from (from + words)) type
-  pub inside : PartWithin proof ws inHeld from (from + words)
+  pub part : Is (part-of proof ws in-held from (from + words)) type
+  pub inside : PartWithin proof ws in-held from (from + words)
   pub type-words : words ≡ size type
   pub small : words ≤ most-type-words
   pub fits : words ≤ room

@@ -23,7 +23,7 @@ ghost use lib.ListN.{length};
 ghost use Rattle.logic.specs.Limits.{most-words};
 ghost use Rattle.logic.specs.Term.{Op, bindO, Term, Says, size, first-word};
 ghost use Rattle.logic.specs.Reading.{PlainType};
-ghost use Rattle.logic.specs.Infer.{domain as isDomain};
+ghost use Rattle.logic.specs.Infer.{domain as is-domain};
 ghost use Rattle.words.specs.Place.{written-at};
 ghost use Rattle.words.specs.Typed.{TypeAt};
 ghost use Rattle.rules.specs.Scope.{entry-head, binder-entry};
@@ -38,7 +38,7 @@ pub enum Entered {
 
 // Whether a type that begins with this word is one that a domain may have: T, P or KindP, which have no other word.
 fn domain(word: u32) -> bool
-    ensures { λ r. ⌜ ((A : Term) → PlainType A → word ≡ first-word A → r ≡ isDomain A) ⌝ }
+    ensures { λ r. ⌜ ((A : Term) → PlainType A → word ≡ first-word A → r ≡ is-domain A) ⌝ }
 {
     if word == TYPE {
         return true;

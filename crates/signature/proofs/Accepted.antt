@@ -26,7 +26,8 @@ pub record ConstantsRead (sig table : List ℕ) (count : ℕ) : Type 0 where
   pub counted : count ≡ length Σ
   pub constants-are : ConstantsOf sig (take count table) Σ
 
-pub constants-read : (sig table : List ℕ) (count : ℕ) (r : Listed) → SignatureRead (signature sig) sig table r → r ≡ Accepted count → ConstantsRead sig table count
+pub constants-read : (sig table : List ℕ) (count : ℕ) (r : Listed) → SignatureRead (signature sig) sig table r → r ≡ Accepted count
+    → ConstantsRead sig table count
 constants-read sig table count r R q = bound (signature sig) _ (sym (R .answer) ∙ ap listed-answer q) λ Σ i j.
     let h : count ≡ length Σ = sym (ok-inj j) in
     record { Σ = Σ; is = i; counted = h; constants-are = subst (λ (n : ℕ). ConstantsOf sig (take n table) Σ) (sym h) (R .constants Σ i) }

@@ -107,7 +107,8 @@ module _ (Σ : List Term) (sig : List ℕ) (at : ℕ) (l : at < length sig) wher
         go (ok t) e = typed t (infer Σ [] 0 t) e
         go (refused m′ p′) e = absurd (clash (cc))
 
-    pub constant-not-typed : (new : List ℕ) (r : Derivation) (end m p : ℕ) → Judged (typed-term Σ most-words most-nesting (take n ws)) end new r → r ≡ Refused m p
+    pub constant-not-typed : (new : List ℕ) (r : Derivation) (end m p : ℕ) → Judged (typed-term Σ most-words most-nesting (take n ws)) end new r
+        → r ≡ Refused m p
         → false ≡ constant-at Σ (drop at sig)
     constant-not-typed new r end m p J q = sym (tests ∙ typed-refused m p (refused-by _ end (J .answer) m p q))
 

@@ -31,7 +31,8 @@ module _ (workspace : ℕ) (sig term : List ℕ) where
     past : timed-tests workspace sig term ≡ rest (signature sig)
     past = ap (λ (b : Bool). require b workspace-short 0 >> rest (signature sig)) (le-leb least-workspace workspace enough)
 
-    pub bad : (table : List ℕ) (r : Listed) (p : ℕ) → SignatureRead (signature sig) sig table r → r ≡ Bad p → bad-signature ≡ number-of (timed-tests workspace sig term)
+    pub bad : (table : List ℕ) (r : Listed) (p : ℕ) → SignatureRead (signature sig) sig table r → r ≡ Bad p
+        → bad-signature ≡ number-of (timed-tests workspace sig term)
     bad table r p R q = sym (ap number-of (past ∙ stop _ (list-refused sig table p r R q)))
 
     module _ (table : List ℕ) (count : ℕ) (C : ConstantsRead sig table count) (end : ℕ) (new : List ℕ) (d : Derivation)

@@ -116,7 +116,7 @@ binders-named (in-proof {A} a b) = (in-range-named A (plain-in-range A (a .plain
 binders-named (in-workspace {A} x p l b) = (in-range-named A (plain-in-range A p), binders-named b)
 
 -- what the check gives for a term that is ready
-pub type-of : {sig table proof ws : List ℕ} {floor used at left : ℕ} {Σ Γ : List Term} {t A : Term} → SubjectAt sig table proof ws floor used at left Σ Γ t
+type-of : {sig table proof ws : List ℕ} {floor used at left : ℕ} {Σ Γ : List Term} {t A : Term} → SubjectAt sig table proof ws floor used at left Σ Γ t
     → infer Σ Γ at t ≡ ok A → PlainType A × (size A ≤ most-type-words)
 type-of {sig} {table} {at} {Σ} {Γ} {t} r e =
     inferred (r .signature) (declared-named sig table Σ (r .declared)) (r .context) (binders-named (r .binders)) (omega (arith, r .few)) t at (r .here .plain) e
@@ -223,7 +223,8 @@ binders-more {proof} {h} {Γ} bindO at a A i p e b =
     let s : size A ≡ suc (size (first-child A) + size (second-child A)) = ap size says in
     let n : entry-head + (length x + size (second-child A)) ≡ entry-head + size A = omega arith in
     subst (λ (w : List ℕ). Binders proof w (second-child A ∷ Γ))
-    (ap₂ (λ (k : ℕ) (w : List ℕ). k ∷ 0 ∷ size (second-child A) ∷ (op-word saysO ∷ w)) n (sym (append-assoc (encode (raise 1 (first-child A))) (encode (second-child A)) h)))
+    (ap₂ (λ (k : ℕ) (w : List ℕ). k ∷ 0 ∷ size (second-child A) ∷ (op-word saysO ∷ w)) n
+    (sym (append-assoc (encode (raise 1 (first-child A))) (encode (second-child A)) h)))
     (in-workspace {s = 0} x (q .1) (omega arith) b)
 
 -- ---- what the check of a node is
@@ -291,7 +292,8 @@ module _ {sig table proof ws : List ℕ} {floor used at left : ℕ} {Σ Γ : Lis
         kept = D .kept;
       }
 
-  module _ (mid mid2 : List ℕ) (next n keep kept : ℕ) (B : BetweenChildren proof ws mid used at next n Σ Γ o a) (I : Inside mid mid2 used at n keep kept o a (B .type))
+  module _ (mid mid2 : List ℕ) (next n keep kept : ℕ) (B : BetweenChildren proof ws mid used at next n Σ Γ o a)
+      (I : Inside mid mid2 used at n keep kept o a (B .type))
       (below : floor ≤ used) (same : length mid2 ≡ length ws) (room : used + left * level-words + front-words ≤ length ws) where
     abbrev A : Term
     A = B .type
@@ -307,7 +309,8 @@ module _ {sig table proof ws : List ℕ} {floor used at left : ℕ} {Σ Γ : Lis
     pub level : keep + kept ≤ used + level-words
     level = go o (I .keep-is) (I .kept-is) (entry-short o at a A (B .small) (I .passed))
       where
-        go : (o : Op) → keep ≡ keep-of o n → kept ≡ used + length (binder-entry o at a A) → length (binder-entry o at a A) ≤ level-words → keep + kept ≤ used + level-words
+        go : (o : Op) → keep ≡ keep-of o n → kept ≡ used + length (binder-entry o at a A) → length (binder-entry o at a A) ≤ level-words
+            → keep + kept ≤ used + level-words
         go saysO e f l = omega arith
         go piO e f l = omega arith
         go lamO e f l = omega arith
@@ -337,7 +340,8 @@ module _ {sig table proof ws : List ℕ} {floor used at left : ℕ} {Σ Γ : Lis
         go appO e = R .context
         go retO e = R .context
         go bindO e =
-            binder (R .context) (said-types Σ (R .signature) (stratify Σ (R .signature) (R .context) (subst (Has Σ Γ a) (ready-says at A e) first-has)) .1) of-prop
+            binder (R .context) (said-types Σ (R .signature) (stratify Σ (R .signature) (R .context) (subst (Has Σ Γ a) (ready-says at A e) first-has)) .1)
+            of-prop
 
     within-length : length (within o a A Γ) ≤ length Γ + 1
     within-length = go o

@@ -8,7 +8,7 @@ use borrow.Author.Needs.{needs}
 use borrow.Fn.Kinds.{In}
 use borrow.Fn.PlainCycle.{Measures, is, falls, and}
 use Rattle.logic.specs.Term.{Term, size}
-use Rattle.logic.specs.Move.{occurs as occursIn}
+use Rattle.logic.specs.Move.{occurs as occurs-in}
 use Rattle.logic.proofs.Shapes.{term-kind}
 use Rattle.logic.proofs.word.kind.Reads as kind-reads
 use Rattle.logic.proofs.word.payload_of.Reads as payload-of-reads
@@ -167,7 +167,7 @@ module _ (t : ℕ) where
       let s = start (known (f .before)) in
       let a = s .args in
       let n = node (f .before) in
-      let w = absent-is (occursIn (a .c) (n .first)) (a .at + 1 + size (n .first)) _
+      let w = absent-is (occurs-in (a .c) (n .first)) (a .at + 1 + size (n .first)) _
       (ap occurrence-answer (sym (c .before .first .given .1)) ∙ f .occurs .ensures (n .first) (n .left)) in
       let r = within s in (
         omega (arith, w .next-is),

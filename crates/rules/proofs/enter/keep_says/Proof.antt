@@ -18,7 +18,8 @@ said-for : (c : tie.After-copy-within) (p q : Term) → TypeAt (c .before .befor
     c .before .before .before .args .n ≡ size (Says p q) →
     At (c .copy-within .last .0)
     (length (c .before .before .before .args .ws .now) - (c .before .before .before .args .used + (3 + c .before .before .before .args .n)) + 3 + 1) p
-said-for c p q h e = let s = c .before .before .before in principal-at (s .args .used) h e (omega (arith, s .pre .room, s .pre .small)) (c .copy-within .ensures)
+said-for c p q h e =
+    let s = c .before .before .before in principal-at (s .args .used) h e (omega (arith, s .pre .room, s .pre .small)) (c .copy-within .ensures)
 
 -- ---- places, from a later one back to an earlier one
 

@@ -1,5 +1,5 @@
--- `binder` searches the entry of variable n, by a loop over entries. The invariant (`Found`): from `kept` on, the words
--- kept are the entries of the binders behind the first n - left. The measure is `kept`.
+-- `binder` searches the entry of variable n, by a loop over entries. The invariant (`BinderFound`): from `kept` on,
+-- the words kept are the entries of the binders behind the first n - left. The measure is `kept`.
 use Rattle.rules.proofs.Scopes.{EntryStep, entry-step, passed-none, passed-n, passed-one, passed-all}
 use mathlib.Core.List.{List}
 use Prim.Native.Nat.{ℕ, _-_, _≤_}

@@ -1,4 +1,4 @@
--- `read_signature` reads the list, by a loop over its constants. The invariant (`Reading`): the constants up to `at`
+-- `read_signature` reads the list, by a loop over its constants. The invariant (`ReadUpTo`): the constants up to `at`
 -- are read, and what is left decides the answer. The measure is the number of words left.
 use Prim.Native.Nat.{_+_, _-_, _≤_}
 use mathlib.Core.Bool.{true}

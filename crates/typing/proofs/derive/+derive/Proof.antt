@@ -21,7 +21,8 @@ use Rattle.typing.specs.Derive.{SubjectAt, Derived}
 use Rattle.rules.specs.declared.derivation.Derivation.{Derivation}
 use Rattle.rules.specs.declared.derivation.Derivation.the-variants.{Refused}
 use Rattle.typing.proofs.Tails.{rest-of, whole-of, rest-length, whole-length}
-use Rattle.typing.proofs.Derives.{Derives, carried, BetweenChildren, between-children, Inside, inside-node, signed-in, sign-derived, sign-refused, sign-ready}
+use Rattle.typing.proofs.Derives.{Derives, carried, BetweenChildren, between-children, Inside, inside-node, signed-in, sign-derived}
+use Rattle.typing.proofs.Derives.{sign-refused, sign-ready}
 use Rattle.typing.proofs.Derives.{first-ready, two-deep, second-ready, level, atom-derived, variable-derived, first-refusal, test-refusal}
 use Rattle.typing.proofs.Derives.{second-refusal, formable, forms-here, node-derived, NodeSubject, SignSubject}
 use Rattle.typing.proofs.derive.derive.Reads as derive
