@@ -25,7 +25,7 @@ use Rattle.rules.specs.Form.{Front}
 use Rattle.rules.proofs.Fronts.{typed-by, refused-by}
 use Rattle.rules.specs.declared.derivation.Derivation.{Derivation}
 use Rattle.rules.specs.declared.derivation.Derivation.the-variants.{Typed, Refused}
-use Rattle.typing.specs.Check.{Constants-of, typed-term, Judged}
+use Rattle.typing.specs.Check.{ConstantsOf, typed-term, Judged}
 use Rattle.records.specs.Answers.{unheld-answer}
 use Rattle.records.specs.declared.search.Unheld.{Unheld}
 use Rattle.records.specs.declared.search.Unheld.the-variants.{Nowhere, At}

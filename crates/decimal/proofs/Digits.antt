@@ -2,17 +2,16 @@
 use Prim.Native.Nat.{ℕ, zero, suc, _+_, _*_, _-_, _/_, _%_, _≤_, _<_}
 use native.Mathlib.Omega.{arith}
 use mathlib.Core.Path.{_≡_, refl, sym, ap, _∙_}
-use mathlib.Core.Bool.{Bool, true, false}
+use mathlib.Core.Bool.{Bool, true, false, cond}
 use mathlib.Core.List.{List, [], _∷_, _++_}
 use lib.Dec.{ltb}
 use lib.ListN.{length, length-append}
 use borrow.Author.Tests.{lt-ltb, le-ltb, ltb-true, ltb-false}
-use Rattle.logic.specs.Result.{pick}
 use Rattle.decimal.specs.Decimal.{zero-digit, digits, decimal, number, number-bytes}
 
 -- the digits of a number by the test whether it has one only, with k places for those in front
 abbrev by-size : (k n : ℕ) → Bool → List ℕ
-by-size k n small = pick small ((zero-digit + n) ∷ []) (digits k (n / 10) ++ ((zero-digit + n % 10) ∷ []))
+by-size k n small = cond small ((zero-digit + n) ∷ []) (digits k (n / 10) ++ ((zero-digit + n % 10) ∷ []))
 
 pub digits-none : (k n : ℕ) → k ≡ 0 → [] ≡ digits k n
 unfolding digits

@@ -4,14 +4,14 @@ use Prim.Native.String.{String, [] as end-of-text, _∷_ as _then_}
 use Prim.Native.Nat.{ℕ, zero, suc, _+_, _/_, _%_}
 use mathlib.Core.Path.{_≡_}
 use mathlib.Core.List.{List, [], _∷_, _++_}
+use mathlib.Core.Bool.{cond}
 use lib.Dec.{ltb}
 use lib.ListN.{length}
-use Rattle.logic.specs.Result.{pick}
-use Rattle.words.specs.Place.{written}
+use Rattle.words.specs.Place.{written-at}
 
 -- bytes were put from `to` on, and end at r
 pub record Put (old : List ℕ) (to : ℕ) (text new : List ℕ) (r : ℕ) : Type 0 where
-  pub bytes : new ≡ written old to text
+  pub bytes : new ≡ written-at old to text
   pub end : r ≡ to + length text
 
 -- the bytes of a text whose characters are bytes
@@ -31,7 +31,7 @@ feed = 10
 -- a number's last k decimal digits at most, with no zeros in front
 unfoldable pub digits : ℕ → ℕ → List ℕ
 digits zero n = []
-digits (suc k) n = pick (ltb n 10) ((zero-digit + n) ∷ []) (digits k (n / 10) ++ ((zero-digit + n % 10) ∷ []))
+digits (suc k) n = cond (ltb n 10) ((zero-digit + n) ∷ []) (digits k (n / 10) ++ ((zero-digit + n % 10) ∷ []))
 
 -- the digits that hold any 32-bit number
 abbrev pub most-digits : ℕ

@@ -6,7 +6,7 @@ use mathlib.Core.Logic.{_↔_}
 use mathlib.Core.Bool.{Bool, true, false}
 use mathlib.Core.List.{List}
 use lib.ListN.{length}
-use Rattle.logic.specs.Refusals.{out-of-form, last-number}
+use Rattle.logic.specs.Refusals.{out-of-form, last-refusal}
 use Rattle.logic.specs.Result.{Result, ok, refused, number-of, _>>_}
 use Rattle.logic.proofs.Results.{ok-inj, not-ok, followed}
 use Rattle.logic.proofs.Stopped.{not-refused, number-is, place-is, stopped-then, stop-then, not-passed, passed-not}
@@ -113,13 +113,13 @@ module _ (l : Lent) (reg : List ℕ) (k : Ask) (hs t : List ℕ) (room : ℕ) wh
   }
 
   -- a refusal's number is at most the last one, and its place within what was lent
-  refused-within : {m place : ℕ} → ExtractRefused l reg k hs t room m place → (m ≤ last-number) × (place ≤ length (l .sig) + length (k .proof))
+  refused-within : {m place : ℕ} → ExtractRefused l reg k hs t room m place → (m ≤ last-refusal) × (place ≤ length (l .sig) + length (k .proof))
   refused-within (extract-21 n) = (omega arith, omega arith)
   refused-within (extract-request {m} {place} f r) =
       let (n, q) = request-bound l reg k (demand1 .requests l reg k .refuses m place .1 r) in
       (n .1, q)
 
-  pub extract-bound : {m place : ℕ} → call ≡ refused m place → (m ≤ last-number) × (place ≤ length (l .sig) + length (k .proof))
+  pub extract-bound : {m place : ℕ} → call ≡ refused m place → (m ≤ last-refusal) × (place ≤ length (l .sig) + length (k .proof))
   extract-bound e = refused-within (refused-then e)
 
 pub demands : Demands

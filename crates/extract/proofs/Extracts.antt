@@ -10,7 +10,7 @@ use Rattle.rules.specs.declared.derivation.Verdict.{Verdict}
 use Rattle.rules.specs.declared.derivation.Verdict.the-variants.{Passed, Fault}
 use Rattle.rules.specs.Form.{verdict-answer}
 use Rattle.typing.specs.Check.{without-value}
-use Rattle.words.specs.Place.{written}
+use Rattle.words.specs.Place.{written-at}
 use Rattle.register.specs.Records.{Ask}
 use Rattle.register.specs.Calls.{Lent, request-call, after-request}
 use Rattle.request.specs.Requested.{RequestedAs}
@@ -78,5 +78,5 @@ module _ (l : Lent) (reg : List ℕ) (k : Ask) (hs t old : List ℕ) where
     extract-not-granted m place f =
         told (refused m place) new old r (outcome (Fault m place) f) record { answer = ap verdict-answer f; register = kept (Fault m place) f; output = refl }
 
-    pub extract-granted : (out : List ℕ) → r ≡ Passed → out ≡ written old 0 (joined hs t) → ExtractedAs l reg k hs t new old out Passed
+    pub extract-granted : (out : List ℕ) → r ≡ Passed → out ≡ written-at old 0 (joined hs t) → ExtractedAs l reg k hs t new old out Passed
     extract-granted out f w = told (ok (joined hs t)) new out Passed (outcome Passed f) record { answer = refl; register = kept Passed f; output = w }

@@ -2,7 +2,7 @@
 use mathlib.Core.Path.{refl}
 use native.Mathlib.Decide.{ℕ-discrete}
 use Rattle.logic.specs.Term.{size, encode}
-use Rattle.logic.specs.Move.{shift, fillAt, occurs}
+use Rattle.logic.specs.Move.{shift, fill-at, occurs}
 use Rattle.logic.specs.Reading.{read, too-deep, first-unheld}
 use Rattle.logic.specs.Infer.{infer, same-term, conclusion}
 use Rattle.logic.specs.SignatureList.{constants, operations}
@@ -16,7 +16,7 @@ use Rattle.extract.specs.Desk.{desk-run, desk-answers}
 use Rattle.extract.specs.Guards.{ExtractGuards}
 
 pub extract-guards : ExtractGuards
-unfolding infer same-term conclusion read too-deep first-unheld shift fillAt occurs size encode ℕ-discrete constants operations records
+unfolding infer same-term conclusion read too-deep first-unheld shift fill-at occurs size encode ℕ-discrete constants operations records
     words-of held same-words opening run listed rising rows formed survey-code joined extract-call desk-run desk-answers
 extract-guards = record {
   granted = refl;

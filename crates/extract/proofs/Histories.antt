@@ -2,11 +2,11 @@
 -- extracts leaves what the list with their requests leaves.
 use Prim.Native.Nat.{ℕ}
 use mathlib.Core.Path.{_≡_, refl, sym, ap, ap₂, _∙_}
-use mathlib.Core.Bool.{Bool, true, false}
+use mathlib.Core.Bool.{Bool, true, false, cond}
 use mathlib.Core.List.{List, [], _∷_, _++_, List·Permᴰ, List·Permᴰ·nil, List·Permᴰ·cons, List·Permᴰ·swap}
 use mathlib.Core.List.{List·Permᴰ·trans, Permᴰ·refl, Permᴰ·symm, Permᴰ·append-left, Permᴰ·middle}
 use Rattle.logic.specs.Refusals.{out-of-form}
-use Rattle.logic.specs.Result.{Result, refused, pick}
+use Rattle.logic.specs.Result.{Result, refused}
 use Rattle.typing.specs.Check.{without-value}
 use Rattle.register.specs.Records.{Ask, register-records, written}
 use Rattle.register.specs.Calls.{after-request}
@@ -24,8 +24,8 @@ use Rattle.extract.proofs.Extracts.{broken-form, request-answer}
 module _ (s : Setting) (reg : List ℕ) (w : ℕ) (k : Ask) (hs t : List ℕ) (room : ℕ) where
   -- the register that it leaves and its answer, by its form
   by-form : (b : Bool) → formed hs t room ≡ b →
-      (desk-after s reg (extract w k hs t room) ≡ run s reg (pick b (request w k ∷ []) []))
-      × (desk-reply s reg (extract w k hs t room) ≡ pick b (reply s reg (request w k)) (requested (refused out-of-form 0)))
+      (desk-after s reg (extract w k hs t room) ≡ run s reg (cond b (request w k ∷ []) []))
+      × (desk-reply s reg (extract w k hs t room) ≡ cond b (reply s reg (request w k)) (requested (refused out-of-form 0)))
   unfolding run
   by-form true e =
       let a = request-answer (lent s w) reg k hs t room e in
@@ -91,7 +91,7 @@ unfolding NoRefusal
 none-first s reg (plain c) n = (n, tt)
 none-first s reg (extract w k hs t room) n = go (formed hs t room) refl
   where
-    go : (b : Bool) → formed hs t room ≡ b → NoRefusal s reg (pick b (request w k ∷ []) [])
+    go : (b : Bool) → formed hs t room ≡ b → NoRefusal s reg (cond b (request w k ∷ []) [])
     go true e = (λ r. n (rw (by-form s reg w k hs t room true e .1) r), tt)
     go false e = tt
 

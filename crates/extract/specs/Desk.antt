@@ -2,9 +2,10 @@
 use Prim.Native.Nat.{ℕ}
 use mathlib.Core.Path.{_≡_}
 use mathlib.Core.List.{List, [], _∷_, _++_, List·Permᴰ}
+use mathlib.Core.Bool.{cond}
 use lib.ListN.{length}
 use Rattle.logic.specs.Refusals.{out-of-form}
-use Rattle.logic.specs.Result.{ok, refused, pick}
+use Rattle.logic.specs.Result.{ok, refused}
 use Rattle.typing.specs.Check.{without-value}
 use Rattle.register.specs.Records.{Record, Ask, register-records, written}
 use Rattle.register.specs.Calls.{after-request, open-call}
@@ -41,7 +42,7 @@ desk-answers s reg (c ∷ cs) = desk-reply s reg c ∷ desk-answers s (desk-afte
 -- an extract as its request, and as nothing where its form is broken
 abbrev pub as-request : DeskCall → List Call
 as-request (plain c) = c ∷ []
-as-request (extract w k hs t room) = pick (formed hs t room) (request w k ∷ []) []
+as-request (extract w k hs t room) = cond (formed hs t room) (request w k ∷ []) []
 
 unfoldable pub as-requests : List DeskCall → List Call
 as-requests [] = []
@@ -50,7 +51,7 @@ as-requests (c ∷ cs) = as-request c ++ as-requests cs
 -- what a call answers then: 21 where the form is broken
 abbrev pub reply-as-request : Setting → List ℕ → DeskCall → Reply
 reply-as-request s reg (plain c) = reply s reg c
-reply-as-request s reg (extract w k hs t room) = pick (formed hs t room) (reply s reg (request w k)) (requested (refused out-of-form 0))
+reply-as-request s reg (extract w k hs t room) = cond (formed hs t room) (reply s reg (request w k)) (requested (refused out-of-form 0))
 
 unfoldable pub answers-as-requests : Setting → List ℕ → List DeskCall → List Reply
 answers-as-requests s reg [] = []

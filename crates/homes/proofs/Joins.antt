@@ -2,16 +2,15 @@
 use Prim.Native.Nat.{ℕ, _+_, _*_, _≤_, _<_}
 use native.Mathlib.Omega.{arith}
 use mathlib.Core.Path.{_≡_, refl, sym, ap, ap₂, _∙_}
-use mathlib.Core.Bool.{Bool, true, false, _&&_, not}
+use mathlib.Core.Bool.{Bool, true, false, _&&_, not, cond}
 use mathlib.Core.List.{List, [], _∷_}
 use lib.Dec.{leb, ltb, eqb}
 use lib.ListN.{length}
 use borrow.Author.Tests.{leb-true, le-leb, ltb-true, ltb-false, ne-eqb}
-use Rattle.logic.specs.Result.{pick}
 use Rattle.logic.proofs.Basics.{clash}
 use Rattle.logic.proofs.Results.{both-true, true-both}
 use Rattle.logic.specs.Refusals.{out-of-form}
-use Rattle.words.specs.Place.{written}
+use Rattle.words.specs.Place.{written-at}
 use Rattle.homes.specs.Homes.{most-homes, most-rows, no-survey, rising, rows, formed, survey-code, joined, write-call, Wrote, here}
 
 -- ---- the pass: rows of lower homes are passed over, and then the row that stands there decides
@@ -19,7 +18,7 @@ use Rattle.homes.specs.Homes.{most-homes, most-rows, no-survey, rising, 
 unfoldable pub beyond : ℕ → List ℕ → List ℕ
 beyond h [] = []
 beyond h (x ∷ []) = x ∷ []
-beyond h (x ∷ c ∷ t) = pick (ltb x h) (beyond h t) (x ∷ c ∷ t)
+beyond h (x ∷ c ∷ t) = cond (ltb x h) (beyond h t) (x ∷ c ∷ t)
 
 unfoldable pub walked : (hs t : List ℕ) → List ℕ
 walked [] t = []
@@ -69,10 +68,10 @@ rows-low least low (h ∷ c ∷ t) l e =
 -- a row of another home
 code-other : (x c k : ℕ) (t : List ℕ) → (x ≡ k → ⊥) → survey-code k (x ∷ c ∷ t) ≡ survey-code k t
 unfolding survey-code
-code-other x c k t n = ap (λ (b : Bool). pick b c (survey-code k t)) (ne-eqb x k n)
+code-other x c k t n = ap (λ (b : Bool). cond b c (survey-code k t)) (ne-eqb x k n)
 
 over : (h k x c : ℕ) (t : List ℕ) (b : Bool) → h ≤ k → ltb x h ≡ b → survey-code k (beyond h t) ≡ survey-code k t →
-    survey-code k (pick b (beyond h t) (x ∷ c ∷ t)) ≡ survey-code k (x ∷ c ∷ t)
+    survey-code k (cond b (beyond h t) (x ∷ c ∷ t)) ≡ survey-code k (x ∷ c ∷ t)
 over h k x c t true l e i = let s = ltb-true x h e in i ∙ sym (code-other x c k t (λ q. omega arith))
 over h k x c t false l e i = refl
 
@@ -83,7 +82,7 @@ code-beyond h k (x ∷ []) l = refl
 code-beyond h k (x ∷ c ∷ t) l = over h k x c t (ltb x h) l refl (code-beyond h k t l)
 
 rows-over : (h x c : ℕ) (t : List ℕ) (b : Bool) → rows 0 (x ∷ c ∷ t) ≡ true → rows 0 (beyond h t) ≡ true →
-    rows 0 (pick b (beyond h t) (x ∷ c ∷ t)) ≡ true
+    rows 0 (cond b (beyond h t) (x ∷ c ∷ t)) ≡ true
 rows-over h x c t true e i = i
 rows-over h x c t false e i = e
 
@@ -103,12 +102,12 @@ code-none h least (x ∷ c ∷ t) e l =
     let f = row-facts least x c t e in
     code-other x c h t (λ q. omega (arith, f .low)) ∙ code-none h (x + 1) t (f .rest) (omega (arith, f .low))
 
-here-row : (h x c : ℕ) (t : List ℕ) (b : Bool) → rows (x + 1) t ≡ true → h ≤ x → eqb x h ≡ b → pick b c no-survey ≡ pick b c (survey-code h t)
+here-row : (h x c : ℕ) (t : List ℕ) (b : Bool) → rows (x + 1) t ≡ true → h ≤ x → eqb x h ≡ b → cond b c no-survey ≡ cond b c (survey-code h t)
 here-row h x c t true e l q = refl
 here-row h x c t false e l q = sym (code-none h (x + 1) t e (omega arith))
 
 here-front : (h x c : ℕ) (t : List ℕ) (b : Bool) → rows 0 (x ∷ c ∷ t) ≡ true → ltb x h ≡ b → here h (beyond h t) ≡ survey-code h (beyond h t) →
-    here h (pick b (beyond h t) (x ∷ c ∷ t)) ≡ survey-code h (pick b (beyond h t) (x ∷ c ∷ t))
+    here h (cond b (beyond h t) (x ∷ c ∷ t)) ≡ survey-code h (cond b (beyond h t) (x ∷ c ∷ t))
 unfolding here survey-code
 here-front h x c t true e q i = i
 here-front h x c t false e q i = here-row h x c t (eqb x h) (row-facts 0 x c t e .rest) (ltb-false x h q) refl
@@ -168,7 +167,7 @@ pub write-refused : (hs t old : List ℕ) → formed hs t (length old) ≡ false
 unfolding write-call
 write-refused hs t old e = rw e record { number = refl; output = refl }
 
-pub write-done : (hs t old new : List ℕ) → formed hs t (length old) ≡ true → new ≡ written old 0 (joined hs t) →
+pub write-done : (hs t old new : List ℕ) → formed hs t (length old) ≡ true → new ≡ written-at old 0 (joined hs t) →
     Wrote (write-call hs t (length old)) old new 0
 unfolding write-call
 write-done hs t old new e q = rw e record { number = refl; output = q }

@@ -3,14 +3,13 @@ use Prim.Native.Nat.{ℕ, zero, suc, _+_, _*_, _-_, _/_, _≤_, _<_}
 use native.Mathlib.Omega.{arith}
 use mathlib.Core.Path.{_≡_, refl, sym, ap, subst, _∙_}
 use mathlib.Core.Logic.{_≢_, _↔_}
-use mathlib.Core.Bool.{Bool, true, false}
+use mathlib.Core.Bool.{Bool, true, false, cond}
 use mathlib.Core.List.{List, [], _∷_, _++_, append-nil}
 use lib.Dec.{leb, eqb}
 use lib.ListN.{length, take, drop, getD, drop-of-length-le, List·getD-append}
 use lib.Seq.{getD-append-add, getD-drop, ext-getD}
 use borrow.Author.Tests.{eqb-true, eqb-false, eq-eqb, ne-eqb, leb-true, leb-false}
-use Rattle.logic.specs.Result.{pick}
-use Rattle.words.specs.Place.{written}
+use Rattle.words.specs.Place.{written-at}
 use Rattle.words.proofs.Lists.{length-written, written-front}
 use Rattle.homes.specs.Homes.{no-survey, rows, survey-code, joined}
 use Rattle.homes.specs.Right.{Row, InForm, Right, with-code, without-code, WritingStep}
@@ -43,12 +42,12 @@ row-found : (least : ℕ) (t : List ℕ) (h j : ℕ) → rows least t ≡ true �
 unfolding survey-code
 row-found least [] h j e l q = absurd (omega arith)
 row-found least (x ∷ []) h j e l q = absurd (odd least x e)
-row-found least (x ∷ c ∷ t) h zero e l q = ap (λ (b : Bool). pick b c (survey-code h t)) (eq-eqb x h q)
+row-found least (x ∷ c ∷ t) h zero e l q = ap (λ (b : Bool). cond b c (survey-code h t)) (eq-eqb x h q)
 row-found least (x ∷ c ∷ t) h (suc j) e l q =
     let f = row-facts least x c t e in
     let p : getD t (2 * j) 0 ≡ h = sym (next t x c j) ∙ q in
     let low : x + 1 ≤ getD t (2 * j) 0 = rows-least (x + 1) t j (f .rest) (omega arith) in
-    ap (λ (b : Bool). pick b c (survey-code h t)) (ne-eqb x h (λ r. omega arith)) ∙ row-found (x + 1) t h j (f .rest) (omega arith) p ∙ sym (next-one t x c j)
+    ap (λ (b : Bool). cond b c (survey-code h t)) (ne-eqb x h (λ r. omega arith)) ∙ row-found (x + 1) t h j (f .rest) (omega arith) p ∙ sym (next-one t x c j)
 
 -- a code that is found is a row's
 behind : (x c h d : ℕ) (t : List ℕ) → Row t h d → Row (x ∷ c ∷ t) h d
@@ -56,8 +55,8 @@ behind x c h d t r =
     let i = r .inside in
     record { index = suc (r .index); inside = omega arith; home = next t x c (r .index) ∙ r .home; code = next-one t x c (r .index) ∙ r .code }
 
-first-row : (x c h : ℕ) (t : List ℕ) (b : Bool) → eqb x h ≡ b → (pick b c (survey-code h t) ≢ no-survey) →
-    (survey-code h t ≢ no-survey → Row t h (survey-code h t)) → Row (x ∷ c ∷ t) h (pick b c (survey-code h t))
+first-row : (x c h : ℕ) (t : List ℕ) (b : Bool) → eqb x h ≡ b → (cond b c (survey-code h t) ≢ no-survey) →
+    (survey-code h t ≢ no-survey → Row t h (survey-code h t)) → Row (x ∷ c ∷ t) h (cond b c (survey-code h t))
 first-row x c h t true e n i = record { index = 0; inside = omega arith; home = eqb-true x h e; code = refl }
 first-row x c h t false e n i = behind x c h (survey-code h t) t (i n)
 
@@ -88,7 +87,7 @@ module _ (hs t old : List ℕ) (form : InForm hs t (length old)) where
   words = joined hs t
 
   abbrev out : List ℕ
-  out = written old 0 words
+  out = written-at old 0 words
 
   table : rows 0 t ≡ true
   table = formed-facts hs t (length old) (in-form hs t (length old) .1 form) .table
@@ -149,10 +148,10 @@ module _ (hs t old new new′ : List ℕ) (r : Right hs t old new) (r′ : Right
   one-right : new ≡ new′
   one-right = ext-getD 0 new new′ (r .size ∙ sym (r′ .size)) (λ i l. same-word i)
 
-pub output-right : (hs t old new : List ℕ) → InForm hs t (length old) → (new ≡ written old 0 (joined hs t)) ↔ Right hs t old new
+pub output-right : (hs t old new : List ℕ) → InForm hs t (length old) → (new ≡ written-at old 0 (joined hs t)) ↔ Right hs t old new
 output-right hs t old new form =
     let w = out-right hs t old form in
-    (λ e. subst (Right hs t old) (sym e) w, λ r. one-right hs t old new (written old 0 (joined hs t)) r w)
+    (λ e. subst (Right hs t old) (sym e) w, λ r. one-right hs t old new (written-at old 0 (joined hs t)) r w)
 
 -- ---- the words alone, two a home
 
@@ -162,7 +161,7 @@ module _ (hs t : List ℕ) (room : ℕ) (form : InForm hs t room) where
   words-form xs e = record { homes = form .homes; rise = form .rise; rows-most = form .rows-most; table = form .table; fits = omega arith }
 
   -- all of it is written
-  all-written : (xs : List ℕ) → length xs ≡ 2 * length hs → written xs 0 (joined hs t) ≡ joined hs t
+  all-written : (xs : List ℕ) → length xs ≡ 2 * length hs → written-at xs 0 (joined hs t) ≡ joined hs t
   all-written xs e =
       ap (λ (ws : List ℕ). joined hs t ++ ws) (drop-of-length-le xs {i = 0 + length (joined hs t)} (omega (arith, joined-length hs t)))
       ∙ append-nil (joined hs t)
@@ -177,7 +176,7 @@ module _ (hs t : List ℕ) (room : ℕ) (form : InForm hs t room) where
 
 -- ---- "Homes listed = homes with a code + homes without"
 
-one-of : (b : Bool) → pick b 0 1 + pick b 1 0 ≡ 1
+one-of : (b : Bool) → cond b 0 1 + cond b 1 0 ≡ 1
 one-of true = refl
 one-of false = refl
 

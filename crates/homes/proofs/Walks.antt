@@ -2,15 +2,14 @@
 use Prim.Native.Nat.{ℕ, _+_, _*_, _≤_, _<_}
 use native.Mathlib.Omega.{arith}
 use mathlib.Core.Path.{_≡_, refl, sym, ap, ap₂, _∙_}
-use mathlib.Core.Bool.{Bool, true, false}
+use mathlib.Core.Bool.{Bool, true, false, cond}
 use mathlib.Core.List.{List, [], _∷_, _++_, append-nil}
 use lib.Dec.{ltb}
 use lib.ListN.{length, drop, getD, set, length-append, length-drop, drop-of-length-le}
 use lib.Seq.{drop-drop, append-snoc}
 use borrow.Author.Tests.{eq-eqb, ne-eqb}
-use Rattle.logic.specs.Result.{pick}
 use Rattle.homes.specs.Homes.{no-survey, formed, joined, lower, here}
-use Rattle.words.specs.Place.{written}
+use Rattle.words.specs.Place.{written-at}
 use Rattle.words.proofs.Lists.{drop-one, written-none, written-snoc}
 use Rattle.homes.proofs.Forms.{drop-two}
 use Rattle.homes.proofs.Joins.{beyond, walked, formed-facts, walked-joined}
@@ -48,11 +47,11 @@ module _ (t : List ℕ) (h j : ℕ) where
 
   pub row-other : j + 1 < length t → (getD t j 0 ≡ h → ⊥) → no-survey ≡ here h (drop j t)
   unfolding here
-  row-other l n = sym (ap (here h) (drop-two t j l) ∙ ap (λ (b : Bool). pick b (getD t (j + 1) 0) no-survey) (ne-eqb (getD t j 0) h n))
+  row-other l n = sym (ap (here h) (drop-two t j l) ∙ ap (λ (b : Bool). cond b (getD t (j + 1) 0) no-survey) (ne-eqb (getD t j 0) h n))
 
   pub row-own : j + 1 < length t → getD t j 0 ≡ h → getD t (j + 1) 0 ≡ here h (drop j t)
   unfolding here
-  row-own l e = sym (ap (here h) (drop-two t j l) ∙ ap (λ (b : Bool). pick b (getD t (j + 1) 0) no-survey) (eq-eqb (getD t j 0) h e))
+  row-own l e = sym (ap (here h) (drop-two t j l) ∙ ap (λ (b : Bool). cond b (getD t (j + 1) 0) no-survey) (eq-eqb (getD t j 0) h e))
 
   pub lower-inside : lower h (drop j t) ≡ true → j + 2 ≤ length t
   lower-inside e = omega (arith, lower-long h (drop j t) e, length-drop j t)
@@ -63,13 +62,13 @@ beyond-lower : (h : ℕ) (ws : List ℕ) → lower h ws ≡ true → beyond h ws
 unfolding lower beyond
 beyond-lower h [] e = cc
 beyond-lower h (x ∷ []) e = cc
-beyond-lower h (x ∷ c ∷ ws) e = ap (λ (b : Bool). pick b (beyond h ws) (x ∷ c ∷ ws)) e
+beyond-lower h (x ∷ c ∷ ws) e = ap (λ (b : Bool). cond b (beyond h ws) (x ∷ c ∷ ws)) e
 
 beyond-not : (h : ℕ) (ws : List ℕ) → lower h ws ≡ false → beyond h ws ≡ ws
 unfolding lower beyond
 beyond-not h [] e = refl
 beyond-not h (x ∷ []) e = refl
-beyond-not h (x ∷ c ∷ ws) e = ap (λ (b : Bool). pick b (beyond h ws) (x ∷ c ∷ ws)) e
+beyond-not h (x ∷ c ∷ ws) e = ap (λ (b : Bool). cond b (beyond h ws) (x ∷ c ∷ ws)) e
 
 walk-over : (hs ws : List ℕ) (h : ℕ) → lower h ws ≡ true → walked (h ∷ hs) ws ≡ walked (h ∷ hs) (drop 2 ws)
 unfolding walked
@@ -89,7 +88,7 @@ pub record Walking (hs t old out : List ℕ) (i j : ℕ) : Type 0 where
   pub sofar : List ℕ
   pub count : length sofar ≡ 2 * i
   pub same : walked hs t ≡ sofar ++ walked (drop i hs) (drop j t)
-  pub done : out ≡ written old 0 sofar
+  pub done : out ≡ written-at old 0 sofar
 
 pub walking-start : (hs t old : List ℕ) → Walking hs t old old 0 0
 walking-start hs t old = record { sofar = []; count = refl; same = refl; done = sym (written-none old 0) }
@@ -126,10 +125,10 @@ module _ {hs t old out : List ℕ} {i j : ℕ} (w : Walking hs t old out i j) wh
       }
 
   -- all homes are written
-  pub walking-end : length hs ≤ i → formed hs t (length old) ≡ true → out ≡ written old 0 (joined hs t)
+  pub walking-end : length hs ≤ i → formed hs t (length old) ≡ true → out ≡ written-at old 0 (joined hs t)
   walking-end h form =
       let f = formed-facts hs t (length old) form in
       let e : walked hs t ≡ w .sofar =
       w .same ∙ ap (λ (m : List ℕ). w .sofar ++ walked m (drop j t)) (drop-of-length-le hs {i = i} h)
       ∙ ap (λ (m : List ℕ). w .sofar ++ m) (walk-end (drop j t)) ∙ append-nil (w .sofar) in
-      w .done ∙ ap (λ (ws : List ℕ). written old 0 ws) (sym e ∙ walked-joined 0 hs t (f .rise) (f .table))
+      w .done ∙ ap (λ (ws : List ℕ). written-at old 0 ws) (sym e ∙ walked-joined 0 hs t (f .rise) (f .table))

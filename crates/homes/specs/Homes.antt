@@ -2,13 +2,13 @@
 -- document 02's, slip 3.
 use Prim.Native.Nat.{ℕ, _+_, _*_}
 use mathlib.Core.Path.{_≡_}
-use mathlib.Core.Bool.{Bool, true, false, _&&_, not}
+use mathlib.Core.Bool.{Bool, true, false, _&&_, not, cond}
 use mathlib.Core.List.{List, [], _∷_}
 use lib.Dec.{leb, ltb, eqb}
 use lib.ListN.{length}
 use Rattle.logic.specs.Refusals.{out-of-form}
-use Rattle.logic.specs.Result.{Result, ok, refused, number-of, _>>_, require, pick}
-use Rattle.words.specs.Place.{written}
+use Rattle.logic.specs.Result.{Result, ok, refused, number-of, _>>_, require}
+use Rattle.words.specs.Place.{written-at}
 
 -- "a list of homes (u32, at most 1,024, strictly rising)"
 abbrev pub most-homes : ℕ
@@ -46,7 +46,7 @@ formed hs t room =
 unfoldable pub survey-code : ℕ → List ℕ → ℕ
 survey-code h [] = no-survey
 survey-code h (x ∷ []) = no-survey
-survey-code h (x ∷ c ∷ t) = pick (eqb x h) c (survey-code h t)
+survey-code h (x ∷ c ∷ t) = cond (eqb x h) c (survey-code h t)
 
 -- "every home in the list's order with its survey code, or 4294967295 where no survey exists"
 unfoldable pub joined : (hs t : List ℕ) → List ℕ
@@ -59,7 +59,7 @@ write-call hs t room = require (formed hs t room) out-of-form 0 >> ok (joined hs
 
 -- the output afterwards: "output past the last home is unchanged", and a refusal writes nothing
 abbrev pub after-write : Result (List ℕ) → List ℕ → List ℕ
-after-write (ok xs) out = written out 0 xs
+after-write (ok xs) out = written-at out 0 xs
 after-write (refused m p) out = out
 
 -- the answer's number, and the output afterwards
@@ -79,4 +79,4 @@ lower h (x ∷ c ∷ t) = ltb x h
 unfoldable pub here : ℕ → List ℕ → ℕ
 here h [] = no-survey
 here h (x ∷ []) = no-survey
-here h (x ∷ c ∷ t) = pick (eqb x h) c no-survey
+here h (x ∷ c ∷ t) = cond (eqb x h) c no-survey

@@ -2,12 +2,11 @@
 use Prim.Native.Nat.{ℕ, _+_, _*_, _≤_, _<_}
 use mathlib.Core.Path.{_≡_}
 use mathlib.Core.Logic.{_≢_, _↔_}
-use mathlib.Core.Bool.{true}
+use mathlib.Core.Bool.{true, cond}
 use mathlib.Core.List.{List, [], _∷_}
 use lib.Dec.{eqb}
 use lib.ListN.{length, take, getD}
-use Rattle.logic.specs.Result.{pick}
-use Rattle.words.specs.Place.{written}
+use Rattle.words.specs.Place.{written-at}
 use Rattle.homes.specs.Homes.{most-homes, most-rows, no-survey, formed, joined}
 
 -- "strictly rising": each home is above those before it
@@ -50,19 +49,19 @@ pub record Right (hs t old new : List ℕ) : Type 0 where
 unfoldable pub with-code : List ℕ → ℕ
 with-code [] = 0
 with-code (h ∷ []) = 0
-with-code (h ∷ c ∷ ws) = pick (eqb c no-survey) 0 1 + with-code ws
+with-code (h ∷ c ∷ ws) = cond (eqb c no-survey) 0 1 + with-code ws
 
 unfoldable pub without-code : List ℕ → ℕ
 without-code [] = 0
 without-code (h ∷ []) = 0
-without-code (h ∷ c ∷ ws) = pick (eqb c no-survey) 1 0 + without-code ws
+without-code (h ∷ c ∷ ws) = cond (eqb c no-survey) 1 0 + without-code ws
 
 -- the writing step does what it should
 pub record WritingStep : Type 0 where
   -- the test of the form passes exactly what is in form
   pub form : (hs t : List ℕ) (room : ℕ) → (formed hs t room ≡ true) ↔ InForm hs t room
   -- in form, the words written are the right output and no other: no home falls out
-  pub right : (hs t old new : List ℕ) → InForm hs t (length old) → (new ≡ written old 0 (joined hs t)) ↔ Right hs t old new
+  pub right : (hs t old new : List ℕ) → InForm hs t (length old) → (new ≡ written-at old 0 (joined hs t)) ↔ Right hs t old new
   -- "Homes listed = homes with a code + homes without", counted on the output's words
   pub counted : (hs t old new : List ℕ) → InForm hs t (length old) → Right hs t old new →
       length hs ≡ with-code (take (2 * length hs) new) + without-code (take (2 * length hs) new)

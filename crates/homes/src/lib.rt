@@ -4,7 +4,7 @@ ghost use mathlib.Core.Bool.{true};
 ghost use mathlib.Core.Path.{_≡_};
 ghost use Prim.Native.Nat.{_≤_};
 ghost use lib.ListN.{length, drop};
-ghost use Rattle.words.specs.Place.{written};
+ghost use Rattle.words.specs.Place.{written-at};
 ghost use Rattle.homes.specs.Homes.{rising, rows, formed, joined, lower, here, write-call, Wrote};
 
 pub const MOST_HOMES: usize = 1024;
@@ -99,7 +99,7 @@ fn code_at(surveys: &[u32], j: usize, home: u32) -> u32
 // Writes each home with its code, in one pass over list and table: a turn passes over a row or writes a home.
 pub fn join(homes: &[u32], surveys: &[u32], out: &mut [u32])
     requires { ⌜ formed (now homes) (now surveys) (length (now out)) ≡ true ⌝ }
-    ensures { λ _. ⌜ now (out .exit) ≡ written (now (out .entry)) 0 (joined (now (homes .entry)) (now (surveys .entry))) ⌝ }
+    ensures { λ _. ⌜ now (out .exit) ≡ written-at (now (out .entry)) 0 (joined (now (homes .entry)) (now (surveys .entry))) ⌝ }
 {
     let mut k = 0;
     let mut j = 0;

@@ -6,7 +6,7 @@ use mathlib.Core.Bool.{Bool}
 use mathlib.Core.List.{List}
 use lib.ListN.{length}
 use lib.Seq.{length-take-le}
-use Rattle.logic.specs.Refusals.{last-number}
+use Rattle.logic.specs.Refusals.{last-refusal}
 use Rattle.logic.specs.Result.{Result, ok, refused, number-of, place-of}
 use Rattle.logic.specs.Term.{Term}
 use Rattle.rules.specs.declared.derivation.Derivation.{Derivation}
@@ -30,7 +30,7 @@ use Rattle.host.specs.Answers.{number-unit, place-limit, code-of, added-
 
 -- a number and a place that make up an answer
 abbrev pub Fits : ℕ → ℕ → Type 0
-Fits m p = (m ≤ last-number) × (p < place-limit)
+Fits m p = (m ≤ last-refusal) × (p < place-limit)
 
 -- the code of what was handed back
 pub handed-code : {X : Type 0} (o : Result X) {m p : ℕ} → m ≡ number-of o → p ≡ place-of o → m * number-unit + p ≡ code-of o

@@ -9,7 +9,7 @@ use lib.ListN.{length, take, drop, getElem?, length-append, take-append-drop}
 use lib.Seq.{take-at}
 use borrow.Author.Tests.{leb-true}
 use Rattle.logic.specs.Limits.{most-register}
-use Rattle.logic.specs.Refusals.{past-last-record, last-number}
+use Rattle.logic.specs.Refusals.{past-last-record, last-refusal}
 use Rattle.logic.specs.Result.{Result, ok, refused, _>>=_, _>>_, known, number-of}
 use Rattle.logic.proofs.Basics.{clash}
 use Rattle.logic.proofs.Results.{bound, tested, found, both-true}
@@ -60,7 +60,7 @@ module _ (reg : List ℕ) (k m : ℕ) (n : m ≡ number-of (read-call reg k)) wh
       go (ok r) e f = absurd (ne f)
       go (refused m′ p) e f = let (l, z) = read-bound reg k e in ap₂ refused (sym f) z
 
-  pub number-fits : (m ≡ 0 → ⊥) → m ≤ last-number
+  pub number-fits : (m ≡ 0 → ⊥) → m ≤ last-refusal
   number-fits ne = read-bound reg k (refused-is ne) .0 .1
 
   pub not-read : (kind : ℕ) (body : List ℕ) (code : ℕ) → (m ≡ 0 → ⊥) → kind ≡ kind-of (read-call reg k) → body ≡ body-of (read-call reg k) →

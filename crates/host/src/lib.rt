@@ -14,7 +14,7 @@ use say::Said;
 use say::say;
 ghost use mathlib.Core.Path.{_≡_};
 ghost use Prim.Native.Nat.{_+_, _*_, _≤_, _<_};
-ghost use Rattle.logic.specs.Refusals.{last-number};
+ghost use Rattle.logic.specs.Refusals.{last-refusal};
 ghost use Rattle.register.specs.Records.{statement-of, ask-of};
 ghost use Rattle.register.specs.Calls.{check-call};
 ghost use Rattle.shared_tests.specs.Shared.{lent-of};
@@ -25,7 +25,7 @@ ghost use Rattle.host.specs.Answers.{OpenedTo, SaidTo, RequestedTo, Extr
 const NUMBER_UNIT: u64 = 4294967296;
 
 fn code(number: u32, place: usize) -> u64
-    requires { ⌜ (number ≤ last-number) × (place < place-limit) ⌝ }
+    requires { ⌜ (number ≤ last-refusal) × (place < place-limit) ⌝ }
     ensures { λ r. ⌜ r ≡ number * number-unit + place ⌝ }
 {
     (number as u64) * NUMBER_UNIT + (place as u64)

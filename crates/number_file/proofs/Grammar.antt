@@ -3,14 +3,14 @@ use Prim.Native.Nat.{ℕ, zero, suc, _+_, _*_, _-_, _/_, _%_, _≤_, _<_}
 use native.Mathlib.Omega.{arith}
 use mathlib.Core.Path.{_≡_, refl, sym, ap, ap₂, subst, _∙_}
 use mathlib.Core.Logic.{_↔_}
-use mathlib.Core.Bool.{Bool, true, false, _&&_}
+use mathlib.Core.Bool.{Bool, true, false, _&&_, cond}
 use mathlib.Core.Option.{Option, some, none}
 use mathlib.Core.List.{List, [], _∷_, _++_, append-assoc}
 use lib.Dec.{leb, ltb, eqb}
 use lib.ListN.{length, drop, length-append}
 use lib.Seq.{drop-at}
 use borrow.Author.Tests.{le-leb, leb-true, ltb-true, ltb-false, eq-eqb, ne-eqb, eqb-true}
-use Rattle.logic.specs.Result.{Result, ok, refused, pick, known, require, _>>=_, _>>_}
+use Rattle.logic.specs.Result.{Result, ok, refused, known, require, _>>=_, _>>_}
 use Rattle.logic.proofs.Basics.{clash}
 use Rattle.logic.proofs.Results.{both-true, not-ok}
 use Rattle.decimal.specs.Decimal.{zero-digit, digits, decimal, number, number-bytes, feed}
@@ -136,7 +136,7 @@ sound-more this other b f bs ns ih e =
 sound-byte : (this other b : ℕ) (f : Option ℕ) (bs ns : List ℕ) (x : Bool) → eqb b this ≡ x → Fits f →
     ((xs : List ℕ) → numbers other this none bs ≡ ok xs → Sound other this none bs xs) →
     ((n : ℕ) → n ≤ largest → numbers this other (some n) bs ≡ ok ns → Sound this other (some n) bs ns) →
-    pick x (known out-of-form 0 f >>= λ n. (numbers other this none bs >>= λ xs. ok (n ∷ xs)))
+    cond x (known out-of-form 0 f >>= λ n. (numbers other this none bs >>= λ xs. ok (n ∷ xs)))
     (digit f b >>= λ n. numbers this other (some n) bs) ≡ ok ns → Sound this other f (b ∷ bs) ns
 sound-byte this other b f bs ns true q h i j e = sound-last this other b f bs ns h (eqb-true b this q) i e
 sound-byte this other b f bs ns false q h i j e = sound-more this other b f bs ns j e
@@ -206,7 +206,7 @@ module _ (this other : ℕ) (apart : Apart this) where
   push-number n rest m =
       ap (numbers this other none) (append-assoc (digits 10 n) (this ∷ []) rest)
       ∙ push-all 9 n (this ∷ rest) (omega arith) m
-      ∙ ap (λ (b : Bool). pick b (numbers other this none rest >>= λ ns. ok (n ∷ ns))
+      ∙ ap (λ (b : Bool). cond b (numbers other this none rest >>= λ ns. ok (n ∷ ns))
       (digit (some n) this >>= λ x. numbers this other (some x) rest)) (eq-eqb this this refl)
 
 complete : (this other : ℕ) (ns : List ℕ) → Apart this → Apart other → Small ns → last-end this other ns ≡ feed →

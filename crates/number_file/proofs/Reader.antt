@@ -2,7 +2,7 @@
 use Prim.Native.Nat.{ℕ, _+_, _*_, _-_, _≤_, _<_}
 use native.Mathlib.Omega.{arith}
 use mathlib.Core.Path.{_≡_, refl, sym, ap, ap₂, subst, _∙_}
-use mathlib.Core.Bool.{Bool, true, false, _&&_}
+use mathlib.Core.Bool.{Bool, true, false, _&&_, cond}
 use mathlib.Core.Option.{Option, some, none}
 use mathlib.Core.List.{List, [], _∷_, _++_, append-nil}
 use lib.Dec.{eqb}
@@ -10,10 +10,10 @@ use lib.ListN.{length, take, drop, getD, set, length-append, length-drop, drop-o
 use lib.Seq.{append-snoc, take-all}
 use borrow.Author.Tests.{le-leb, lt-leb, eq-eqb, ne-eqb}
 use Rattle.logic.specs.Refusals.{out-of-form}
-use Rattle.logic.specs.Result.{Result, ok, refused, pick, known, require, _>>=_, _>>_}
+use Rattle.logic.specs.Result.{Result, ok, refused, known, require, _>>=_, _>>_}
 use Rattle.logic.proofs.Basics.{clash}
 use Rattle.logic.proofs.Results.{ok-inj, not-ok, both-true}
-use Rattle.words.specs.Place.{written}
+use Rattle.words.specs.Place.{written-at}
 use Rattle.words.proofs.Lists.{drop-one, written-none, written-snoc}
 use Rattle.decimal.specs.Decimal.{zero-digit, feed}
 use Rattle.number_file.specs.declared.Digit.{Digit}
@@ -78,10 +78,10 @@ behind-one xs n (refused m p) = refl
 pub broken : (o : Result (List ℕ)) (old out : List ℕ) → o ≡ refused out-of-form 0 → ReadAs o old out Broken
 broken o old out e = record { answer = sym (ap (λ (x : Result (List ℕ)). x >>= λ ns. ok (length ns)) e); words = λ ns f. absurd (not-ok (sym e ∙ f)) }
 
-whole : (o : Result (List ℕ)) (old out ns : List ℕ) (count : ℕ) → o ≡ ok ns → length ns ≡ count → out ≡ written old 0 ns → ReadAs o old out (Whole count)
+whole : (o : Result (List ℕ)) (old out ns : List ℕ) (count : ℕ) → o ≡ ok ns → length ns ≡ count → out ≡ written-at old 0 ns → ReadAs o old out (Whole count)
 whole o old out ns count e l w = record {
   answer = ap ok (sym l) ∙ sym (ap (λ (x : Result (List ℕ)). x >>= λ xs. ok (length xs)) e);
-  words = λ xs f. w ∙ ap (λ (ys : List ℕ). written old 0 ys) (ok-inj (sym e ∙ f));
+  words = λ xs f. w ∙ ap (λ (ys : List ℕ). written-at old 0 ys) (ok-inj (sym e ∙ f));
 }
 
 -- ---- the loop: the numbers so far, and the bytes from i on left
@@ -90,13 +90,13 @@ pub record Reading (bs old out : List ℕ) (first this other : ℕ) (begun : Boo
   pub numbers-so-far : List ℕ
   pub many : length numbers-so-far ≡ count
   pub same : numbers first feed none bs ≡ behind numbers-so-far (numbers this other (so-far begun value) (drop i bs))
-  pub done : out ≡ written old 0 numbers-so-far
+  pub done : out ≡ written-at old 0 numbers-so-far
 
 pub reading-start : (bs old : List ℕ) (first : ℕ) → Reading bs old old first first feed false 0 0 0
 reading-start bs old first = record { numbers-so-far = []; many = refl; same = behind-none (numbers first feed none bs); done = sym (written-none old 0) }
 
 byte : (bs : List ℕ) (this other i : ℕ) (f : Option ℕ) → i < length bs → numbers this other f (drop i bs) ≡
-    pick (eqb (getD bs i 0) this)
+    cond (eqb (getD bs i 0) this)
     (known out-of-form 0 f >>= λ n. (numbers other this none (drop (i + 1) bs) >>= λ ns. ok (n ∷ ns)))
     (digit f (getD bs i 0) >>= λ n. numbers this other (some n) (drop (i + 1) bs))
 unfolding numbers
@@ -124,7 +124,7 @@ module _ {bs old out : List ℕ} {first this other : ℕ} {begun : Bool} {value 
     more f = digit f (getD bs i 0) >>= λ n. numbers this other (some n) (drop (i + 1) bs)
 
     by-byte : Bool → Result (List ℕ)
-    by-byte b = pick b (last (so-far begun value)) (more (so-far begun value))
+    by-byte b = cond b (last (so-far begun value)) (more (so-far begun value))
 
     ends : getD bs i 0 ≡ this → left ≡ last (so-far begun value)
     unfolding by-byte

@@ -2,14 +2,14 @@
 -- quotation marks are document 02's, slip 3.
 use Prim.Native.Nat.{ℕ, _+_, _*_, _-_, _≤_}
 use mathlib.Core.Path.{_≡_}
-use mathlib.Core.Bool.{Bool, true, false, _&&_}
+use mathlib.Core.Bool.{Bool, true, false, _&&_, cond}
 use mathlib.Core.Option.{Option, some, none}
 use mathlib.Core.List.{List, [], _∷_, _++_}
 use lib.Dec.{leb, eqb}
 use lib.ListN.{length, drop}
 use Rattle.logic.specs.Refusals.{out-of-form}
-use Rattle.logic.specs.Result.{Result, ok, refused, pick, known, require, _>>=_, _>>_}
-use Rattle.words.specs.Place.{written}
+use Rattle.logic.specs.Result.{Result, ok, refused, known, require, _>>=_, _>>_}
+use Rattle.words.specs.Place.{written-at}
 use Rattle.decimal.specs.Decimal.{zero-digit, feed, number}
 use Rattle.number_file.specs.declared.Digit.{Digit}
 use Rattle.number_file.specs.declared.Digit.the-variants.{More, Wrong}
@@ -40,7 +40,7 @@ ended other (some n) = refused out-of-form 0
 unfoldable pub numbers : (this other : ℕ) → Option ℕ → List ℕ → Result (List ℕ)
 numbers this other f [] = ended other f
 numbers this other f (b ∷ bs) =
-    pick (eqb b this)
+    cond (eqb b this)
     (known out-of-form 0 f >>= λ n. (numbers other this none bs >>= λ ns. ok (n ∷ ns)))
     (digit f b >>= λ n. numbers this other (some n) bs)
 
@@ -82,7 +82,7 @@ pub record IsFile (heading : List ℕ) (this : ℕ) (bs ns : List ℕ) : Type 0 
 
 -- a flag and a number, as the number so far
 abbrev pub so-far : Bool → ℕ → Option ℕ
-so-far begun n = pick begun (some n) none
+so-far begun n = cond begun (some n) none
 
 -- number, place and value of each case
 abbrev pub digit-answer : Digit → Result ℕ
@@ -101,4 +101,4 @@ count-of o = o >>= λ ns. ok (length ns)
 -- file is refused is free
 pub record ReadAs (o : Result (List ℕ)) (old new : List ℕ) (r : Numbers) : Type 0 where
   pub answer : numbers-answer r ≡ count-of o
-  pub words : (ns : List ℕ) → o ≡ ok ns → new ≡ written old 0 ns
+  pub words : (ns : List ℕ) → o ≡ ok ns → new ≡ written-at old 0 ns

@@ -3,7 +3,7 @@
 use Prim.Native.Nat.{ℕ, zero, suc, _+_, _≤_}
 use mathlib.Core.Path.{_≡_, refl, sym, ap, _∙_}
 use mathlib.Core.Logic.{_≢_}
-use mathlib.Core.Bool.{Bool, true, false, _&&_, not}
+use mathlib.Core.Bool.{Bool, true, false, _&&_, not, cond}
 use mathlib.Core.List.{List, [], _∷_, _++_}
 use mathlib.Core.Option.{Option, some, none}
 use native.Mathlib.Omega.{arith}
@@ -12,12 +12,12 @@ use lib.ListN.{length, take, drop, getElem?, length-drop, length-append}
 use borrow.Author.Tests.{leb-true}
 use Rattle.logic.specs.Limits.{most-type-words, most-words, most-nesting, most-statement-words, most-statement-nesting}
 use Rattle.logic.specs.Limits.{least-workspace, most-register, most-constants, most-constant-words}
-use Rattle.logic.specs.Refusals.{bad-signature, malformed, out-of-form, last-number}
-use Rattle.logic.specs.Result.{Result, ok, refused, _>>=_, _>>_, require, known, nowhere, pick}
+use Rattle.logic.specs.Refusals.{bad-signature, malformed, out-of-form, last-refusal}
+use Rattle.logic.specs.Result.{Result, ok, refused, _>>=_, _>>_, require, known, nowhere}
 use Rattle.logic.specs.Term.{propA, typeA, stringA, prinA, kindPA, kindTA, constA, textA, nameA, saysO, piO, lamO, appO}
 use Rattle.logic.specs.Term.{retO, bindO, Atom, Term, atom, var, sign, node, P, N, Name, Says, Pi, encode, size}
 use Rattle.logic.specs.Move.{raise, lower, fill, occurs}
-use Rattle.logic.specs.Reading.{read-whole, Stands, too-deep, first-unheld}
+use Rattle.logic.specs.Reading.{read-whole, SubtermAt, too-deep, first-unheld}
 use Rattle.logic.specs.Infer.{same, measured, domain, body, proposition, parts, infer-atom, infer}
 use Rattle.logic.specs.Check.{term-of, Checked, check-term, check-statement}
 use Rattle.logic.specs.SignatureList.{at-constant, constant, constants, signature, operations-test}
@@ -38,7 +38,7 @@ use Rattle.register.proofs.Opening.{next-rule-rest}
 
 -- a refusal number of document 01 or 02, of a call on the register: 21 is the extract desk's alone
 abbrev pub Number : ℕ → Type 0
-Number m = (1 ≤ m) × (m ≤ last-number) × (m ≢ out-of-form)
+Number m = (1 ≤ m) × (m ≤ last-refusal) × (m ≢ out-of-form)
 
 -- where a result is a refusal, it has such a number and a place up to the bound
 pub data Within {X : Type 0} (bound : ℕ) : Result X → Type 0 where
@@ -77,7 +77,7 @@ nowhere-within : {bound : ℕ} (m : ℕ) (o : Option ℕ) → Number m → ((p :
 nowhere-within m none h f = passed
 nowhere-within m (some p) h f = inside h (f p refl)
 
-pick-within : {X : Type 0} {bound : ℕ} (b : Bool) (r s : Result X) → Within bound r → Within bound s → Within bound (pick b r s)
+pick-within : {X : Type 0} {bound : ℕ} (b : Bool) (r s : Result X) → Within bound r → Within bound s → Within bound (cond b r s)
 pick-within true r s h k = h
 pick-within false r s h k = k
 
@@ -168,7 +168,7 @@ read-within ws = go (read-whole ws) refl
     go (refused m p) e = let (n, M) = read-refused ws m p .0 e in inside {m = m} (omega (arith, n)) (M .within)
 
 -- where a term stands in another is within its words
-stands-within : {s t : Term} {i d : ℕ} → Stands s i d t → i ≤ size t
+stands-within : {s t : Term} {i d : ℕ} → SubtermAt s i d t → i ≤ size t
 stands-within {s} {t} {i} st =
     let (before, behind, n, e) = stands-words st in
     let k : size t ≡ length before + length (encode s ++ behind) = sym (encode-size t) ∙ ap length e ∙ length-append before (encode s ++ behind) in

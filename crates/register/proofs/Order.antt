@@ -2,7 +2,7 @@
 use mathlib.Core.Path.{refl}
 use native.Mathlib.Decide.{ℕ-discrete}
 use Rattle.logic.specs.Term.{size, encode}
-use Rattle.logic.specs.Move.{shift, fillAt, occurs}
+use Rattle.logic.specs.Move.{shift, fill-at, occurs}
 use Rattle.logic.specs.Reading.{read, too-deep, first-unheld}
 use Rattle.logic.specs.Infer.{infer, same-term, conclusion}
 use Rattle.logic.specs.SignatureList.{constants, operations}
@@ -13,7 +13,7 @@ use Rattle.register.specs.Worked.{listed}
 use Rattle.register.specs.Order.{CallOrder}
 
 pub call-order : CallOrder
-unfolding infer same-term conclusion read too-deep first-unheld shift fillAt occurs size encode ℕ-discrete constants operations records
+unfolding infer same-term conclusion read too-deep first-unheld shift fill-at occurs size encode ℕ-discrete constants operations records
     words-of held same-words opening listed within-signs
 call-order = record {
   check-1 = refl;

@@ -2,7 +2,7 @@
 use Prim.Native.Nat.{ℕ, _+_, _-_, _≤_, _<_}
 use native.Mathlib.Omega.{arith}
 use mathlib.Core.Path.{_≡_, sym, ap, ap₂, _∙_}
-use mathlib.Core.Bool.{Bool, true, false, _&&_}
+use mathlib.Core.Bool.{Bool, true, false, _&&_, and-false}
 use mathlib.Core.List.{List}
 use lib.Dec.{leb, ltb}
 use lib.ListN.{length, take}
@@ -15,7 +15,8 @@ use Rattle.logic.specs.Term.{Term, encode, size}
 use Rattle.logic.specs.Infer.{same}
 use Rattle.logic.specs.Check.{check-term, Checked}
 use Rattle.logic.proofs.Results.{both-true, true-both}
-use Rattle.logic.proofs.Words.{encode-size, InRange}
+use Rattle.logic.proofs.Words.{encode-size}
+use Rattle.logic.specs.Reading.{InRange}
 use Rattle.words.specs.Typed.{TypeAt}
 use Rattle.words.proofs.Types.{in-range}
 use Rattle.words.proofs.Sames.{same-types}
@@ -25,7 +26,6 @@ use Rattle.rules.specs.declared.derivation.Verdict.{Verdict}
 use Rattle.rules.specs.declared.derivation.Verdict.the-variants.{Passed, Fault}
 use Rattle.rules.specs.Form.{verdict-answer}
 use Rattle.typing.specs.Check.{typed-term, Judged}
-use Rattle.typing.proofs.Checks.{and-false}
 use Rattle.records.specs.Answers.{Room, unheld-answer}
 use Rattle.records.specs.declared.search.Unheld.{Unheld}
 use Rattle.records.specs.declared.search.Unheld.the-variants.{Nowhere, At}

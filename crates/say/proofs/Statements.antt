@@ -2,14 +2,14 @@
 use Prim.Native.Nat.{ℕ, _+_, _-_, _≤_, _<_}
 use native.Mathlib.Omega.{arith}
 use mathlib.Core.Path.{_≡_, sym, ap, _∙_}
-use mathlib.Core.Bool.{Bool, true, false, not}
+use mathlib.Core.Bool.{Bool, true, false, not, cond}
 use mathlib.Core.List.{List}
 use lib.Dec.{leb, eqb}
 use lib.ListN.{length}
 use borrow.Author.Tests.{le-leb, lt-leb, le-ltb, lt-ltb, eq-eqb, ne-eqb}
 use Rattle.logic.specs.Limits.{payloads, most-words}
 use Rattle.logic.specs.Refusals.{bad-number, desk-says, not-held, register-full}
-use Rattle.logic.specs.Result.{Result, ok, refused, _>>=_, _>>_, require, pick}
+use Rattle.logic.specs.Result.{Result, ok, refused, _>>=_, _>>_, require}
 use Rattle.logic.specs.Term.{Term}
 use Rattle.logic.specs.Scope.{Signature}
 use Rattle.logic.specs.Check.{check-statement}
@@ -40,7 +40,7 @@ use Rattle.say.specs.declared.Said.the-variants.{Added, Held, Fault}
 -- ---- tests 14 and 16, and whether the statement is held
 
 abbrev in-turn : Result (Unit {0}) → Bool → Bool → Result Bool
-in-turn s h b = s >> pick h (ok false) (require b register-full 0 >> ok true)
+in-turn s h b = s >> cond h (ok false) (require b register-full 0 >> ok true)
 
 module _ (l : Lent) (Σ : List Term) (rs : List Record) (reg : List ℕ) (st : Statement) (q : Term) (x : Unheld)
     (e : unheld-answer x ≡ signs-held (held rs) q) where
@@ -54,9 +54,9 @@ module _ (l : Lent) (Σ : List Term) (rs : List Record) (reg : List ℕ) (st : S
   say-unheld place f = ap (λ s. in-turn s (held rs (st .principal) (st .words)) statement-fits) (sym (ap unheld-answer f) ∙ e)
 
   module _ (f : x ≡ Nowhere) (h : Bool) (g : h ≡ held rs (st .principal) (st .words)) where
-    signs-found : (b : Bool) → h ≡ b → tests ≡ pick b (ok false) (require statement-fits register-full 0 >> ok true)
+    signs-found : (b : Bool) → h ≡ b → tests ≡ cond b (ok false) (require statement-fits register-full 0 >> ok true)
     signs-found b k = ap (λ s. in-turn s (held rs (st .principal) (st .words)) statement-fits) (sym e ∙ ap unheld-answer f) ∙ ap
-        (λ (y : Bool). pick y (ok false) (require statement-fits register-full 0 >> ok true)) (sym g ∙ k)
+        (λ (y : Bool). cond y (ok false) (require statement-fits register-full 0 >> ok true)) (sym g ∙ k)
 
     pub say-repeated : h ≡ true → ok false ≡ tests
     say-repeated k = sym (signs-found true k)

@@ -25,7 +25,7 @@ use Rattle.rules.specs.Form.{Front}
 use Rattle.rules.proofs.Fronts.{typed-by, refused-by}
 use Rattle.rules.specs.declared.derivation.Derivation.{Derivation}
 use Rattle.rules.specs.declared.derivation.Derivation.the-variants.{Typed, Refused}
-use Rattle.typing.specs.Check.{Constants-of, typed-term, Judged}
+use Rattle.typing.specs.Check.{ConstantsOf, typed-term, Judged}
 use Rattle.records.specs.Answers.{unheld-answer}
 use Rattle.records.specs.declared.search.Unheld.{Unheld}
 use Rattle.records.specs.declared.search.Unheld.the-variants.{Nowhere, At}
@@ -67,7 +67,7 @@ module _ {Y : Type 0} (l : Lent) (reg table : List ℕ) (r : Ready) (own : View 
     pub reads : register-records reg ≡ ok rs
     pub Σ : List Term
     pub counted : count ≡ length Σ
-    pub constants : Constants-of (l .sig) (take count table) Σ
+    pub constants : ConstantsOf (l .sig) (take count table) Σ
     pub lent-so : LentSo l (outline-of reg) rs table (view l (outline-of reg) rs Σ)
     pub is : on-register l reg own ≡ own (view l (outline-of reg) rs Σ)
 
@@ -81,7 +81,7 @@ module _ {Y : Type 0} (l : Lent) (reg table : List ℕ) (r : Ready) (own : View 
         reads = R .reads;
         Σ = v .Σ;
         counted = c;
-        constants = subst (λ (i : ℕ). Constants-of (l .sig) (take i table) (v .Σ)) (sym c) (S .constants);
+        constants = subst (λ (i : ℕ). ConstantsOf (l .sig) (take i table) (v .Σ)) (sym c) (S .constants);
         lent-so = subst (LentSo l (outline-of reg) (R .rs) table) (S .is) S;
         is = own-tests l (outline-of reg) (register-records reg) own ∙ bind-is own e (ap own (S .is));
       }
@@ -136,7 +136,7 @@ pub type-refused : (o : Result Term) (end : ℕ) (new : List ℕ) (r : Derivatio
 type-refused o end new r m p J q = refused-by o end (J .answer) m p q
 
 -- the table's part that is lent
-pub table-within : (l : Lent) (table : List ℕ) (count : ℕ) (Σ : List Term) → count ≡ length Σ → Constants-of (l .sig) (take count table) Σ →
+pub table-within : (l : Lent) (table : List ℕ) (count : ℕ) (Σ : List Term) → count ≡ length Σ → ConstantsOf (l .sig) (take count table) Σ →
     count ≤ length table
 table-within l table count Σ e C = omega (arith, length-take count table, C .declared .count)
 

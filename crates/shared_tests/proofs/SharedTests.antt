@@ -15,9 +15,9 @@ use Rattle.logic.specs.SignatureList.{signature, operations, operations-test}
 use Rattle.logic.proofs.Basics.{clash}
 use Rattle.logic.proofs.Results.{true-both, not-ok, ok-inj, bound, bind-is}
 use Rattle.logic.proofs.Stopped.{stop}
-use Rattle.typing.specs.Check.{Constants-of}
-use Rattle.signature.specs.Listing.{Read-as}
-use Rattle.signature.proofs.Accepted.{list-refused, Constants-read}
+use Rattle.typing.specs.Check.{ConstantsOf}
+use Rattle.signature.specs.Listing.{SignatureRead}
+use Rattle.signature.proofs.Accepted.{list-refused, ConstantsRead}
 use Rattle.signature.specs.declared.list.Listed.{Listed}
 use Rattle.signature.specs.declared.list.Listed.the-variants.{Bad}
 use Rattle.records.specs.Answers.{record-count, contents-answer}
@@ -94,11 +94,11 @@ lengths-refused w r number e n = go (leb least-workspace w) (leb header r && leb
 signs-refused : (sig table : List ℕ) (n m p : ℕ) → signed sig n ≡ refused m p → SignedAs sig n table (Fault m p)
 signs-refused sig table n m p e = record { answer = sym (stop _ e); constants = λ Σ f. absurd (not-ok (sym e ∙ f)) }
 
-pub signature-bad : (sig table : List ℕ) (n p : ℕ) (r : Listed) → Read-as (signature sig) sig table r → r ≡ Bad p →
+pub signature-bad : (sig table : List ℕ) (n p : ℕ) (r : Listed) → SignatureRead (signature sig) sig table r → r ≡ Bad p →
     SignedAs sig n table (Fault bad-signature p)
 signature-bad sig table n p r R q = signs-refused sig table n bad-signature p (stop _ (list-refused sig table p r R q))
 
-module _ (sig table : List ℕ) (n count : ℕ) (C : Constants-read sig table count) where
+module _ (sig table : List ℕ) (n count : ℕ) (C : ConstantsRead sig table count) where
   signed-is : (b : Bool) → b ≡ operations-test (C .Σ) n → signed sig n ≡ (require b bad-number 0 >> ok (C .Σ))
   signed-is b e = ap (λ x. x >>= λ Σ. require (operations-test Σ n) bad-number 0 >> ok Σ) (C .is) ∙ ap
       (λ (x : Bool). require x bad-number 0 >> ok (C .Σ)) (sym e)
@@ -106,11 +106,11 @@ module _ (sig table : List ℕ) (n count : ℕ) (C : Constants-read sig table co
   pub operations-fit : (b : Bool) → b ≡ operations-test (C .Σ) n → b ≡ true → SignedAs sig n table (Constants count)
   operations-fit b e q =
       let h : signed sig n ≡ ok (C .Σ) = signed-is true (sym q ∙ e) in
-      let c = subst (λ (i : ℕ). Constants-of sig (take i table) (C .Σ)) (C .counted) (C .constants-are) in
+      let c = subst (λ (i : ℕ). ConstantsOf sig (take i table) (C .Σ)) (C .counted) (C .constants-are) in
       record {
         answer = sym (bind-is _ h (ap ok (sym (C .counted))));
         constants = λ Σ f.
-            subst (λ (S : List Term). Constants-of sig (take (length S) table) S) (ok-inj (sym h ∙ f)) c;
+            subst (λ (S : List Term). ConstantsOf sig (take (length S) table) S) (ok-inj (sym h ∙ f)) c;
       }
 
   pub operations-unfit : (b : Bool) → b ≡ operations-test (C .Σ) n → b ≡ false → SignedAs sig n table (Fault bad-number 0)

@@ -9,7 +9,7 @@ use Rattle.logic.specs.Refusals.{workspace-short, bad-number}
 use Rattle.logic.specs.Result.{Result, ok, refused, _>>=_, _>>_, require}
 use Rattle.logic.specs.Term.{Term}
 use Rattle.logic.specs.SignatureList.{signature, operations-test}
-use Rattle.typing.specs.Check.{Constants-of}
+use Rattle.typing.specs.Check.{ConstantsOf}
 use Rattle.register.specs.Records.{Record, header, register-records}
 use Rattle.register.specs.Calls.{Lent, Outline, View, view, length-test, shared, outline-of, fresh-outline, on-register}
 use Rattle.shared_tests.specs.declared.Ready.{Ready}
@@ -35,7 +35,7 @@ ready-answer (Fault m p) = refused m p
 -- the answer; and where the signature is accepted, the first words of the table say where its constants' types stand
 pub record SignedAs (sig : List ℕ) (n : ℕ) (table : List ℕ) (r : Ready) : Type 0 where
   pub answer : ready-answer r ≡ (signed sig n >>= λ Σ. ok (length Σ))
-  pub constants : (Σ : List Term) → signed sig n ≡ ok Σ → Constants-of sig (take (length Σ) table) Σ
+  pub constants : (Σ : List Term) → signed sig n ≡ ok Σ → ConstantsOf sig (take (length Σ) table) Σ
 
 -- what the shared tests find: for calls on a register that is not broken, and for open
 abbrev pub prepared : Lent → List ℕ → Result View
@@ -51,7 +51,7 @@ constants-found o = o >>= λ v. ok (length (v .Σ))
 -- the tests passed
 pub record LentSo (l : Lent) (o : Outline) (rs : List Record) (table : List ℕ) (v : View) : Type 0 where
   pub is : v ≡ view l o rs (v .Σ)
-  pub constants : Constants-of (l .sig) (take (length (v .Σ)) table) (v .Σ)
+  pub constants : ConstantsOf (l .sig) (take (length (v .Σ)) table) (v .Σ)
   pub workspace : least-workspace ≤ l .workspace
   pub not-shorter : header ≤ o .size
   pub not-longer : o .size ≤ most-register

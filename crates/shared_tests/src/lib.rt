@@ -15,7 +15,7 @@ use signature::operations::operations;
 ghost use mathlib.Core.Path.{_≡_};
 ghost use lib.ListN.{length};
 ghost use Rattle.logic.specs.Limits.{most-constants};
-ghost use Rattle.signature.specs.Listing.{Readable};
+ghost use Rattle.signature.specs.Listing.{SignatureReadable};
 ghost use Rattle.logic.specs.Result.{number-of};
 ghost use Rattle.shared_tests.specs.Shared.{lengths-test, lent-of, SignedAs, PreparedAs, OpenedAs};
 
@@ -27,7 +27,7 @@ pub enum Ready {
 
 // Tests 4 and 5.
 fn accept(sig: &[u32], n: u32, table: &mut [u32], ws: &mut [u32]) -> Ready
-    requires { ⌜ Readable (now table) (now ws) ⌝ }
+    requires { ⌜ SignatureReadable (now table) (now ws) ⌝ }
     ensures { λ r. ⌜ SignedAs (now (sig .entry)) n (now (table .exit)) r ⌝ }
 {
     let listed = read_signature(sig, table, ws);

@@ -12,7 +12,7 @@ use Rattle.logic.specs.Limits.{payloads}
 use Rattle.logic.specs.Term.{Term, size}
 use Rattle.logic.specs.Reading.{read-whole}
 use Rattle.words.specs.Place.{Is}
-use Rattle.words.specs.Parsing.{parse-answer, whole}
+use Rattle.words.specs.Parsing.{parse-answer, whole-end}
 use Rattle.words.specs.declared.read.Parse.{Parse}
 use Rattle.words.specs.declared.read.Parse.the-variants.{End}
 use Rattle.words.proofs.Parses.{whole-term}
@@ -25,7 +25,7 @@ pub record Holds (ws : List ℕ) (n : ℕ) : Type 0 where
   pub count : n ≡ size term
   pub words : length ws ≡ n
 
-pub holds : (ws : List ℕ) {r : Parse} (n : ℕ) → parse-answer r ≡ whole (read-whole ws) → r ≡ End n → Holds ws n
+pub holds : (ws : List ℕ) {r : Parse} (n : ℕ) → parse-answer r ≡ whole-end (read-whole ws) → r ≡ End n → Holds ws n
 holds ws n e q =
     let (t, i, is, c) = whole-term ws n (sym e ∙ ap parse-answer q) in
     record { term = t; is = is; count = c; words = size-is ws t is ∙ sym c }

@@ -1,12 +1,12 @@
 -- What the program prints: from the bytes of the two files, or their absence, to bytes. Sentences in quotation marks
 -- are document 02's, slip 3.
 use Prim.Native.Nat.{ℕ, _+_, _*_}
-use mathlib.Core.Bool.{Bool}
+use mathlib.Core.Bool.{Bool, cond}
 use mathlib.Core.Option.{Option, some, none}
 use mathlib.Core.List.{List, _++_}
 use lib.ListN.{length}
 use Rattle.logic.specs.Refusals.{out-of-form}
-use Rattle.logic.specs.Result.{Result, ok, refused, pick, known, _>>=_}
+use Rattle.logic.specs.Result.{Result, ok, refused, known, _>>=_}
 use Rattle.decimal.specs.Decimal.{ascii, comma, feed, number-bytes}
 use Rattle.number_file.specs.NumberFile.{file, fields}
 use Rattle.homes.specs.Homes.{most-homes, most-rows, write-call}
@@ -31,7 +31,7 @@ output-room = 10 + number-bytes * (2 * most-homes)
 
 -- a file's bytes, if it is there
 abbrev pub given : Bool → List ℕ → Option (List ℕ)
-given there bs = pick there (some bs) none
+given there bs = cond there (some bs) none
 
 -- the two files' numbers, and the writing step; "anything else, or no file, is 21"
 unfoldable pub written-homes : (homes surveys : Option (List ℕ)) → Result (List ℕ)

@@ -2,7 +2,7 @@
 use mathlib.Core.Path.{sym}
 use lib.Seq.{length-take-le}
 use Rattle.shared_tests.proofs.SharedTests.{signature-bad, operations-fit, operations-unfit}
-use Rattle.signature.proofs.Accepted.{Constants-read, constants-read, count-within}
+use Rattle.signature.proofs.Accepted.{ConstantsRead, constants-read, count-within}
 use borrow.Author.Needs.{needs}
 use Rattle.shared_tests.proofs.accept.Statement.{statement}
 use Rattle.shared_tests.proofs.accept.Tie as tie
@@ -28,7 +28,7 @@ before-match-keys2 c = c .before .before .before .before .before
 found : (c : tie.After-listed2) →
     let at-read-signature = before-table (c .before .before .before .before .before) in
     let at-start = before-shared-slice-known (before-read-signature at-read-signature) in
-    Constants-read (at-start .args .sig .now) (at-read-signature .read-signature .last .1 .0) (c .listed2 .given .0 .0)
+    ConstantsRead (at-start .args .sig .now) (at-read-signature .read-signature .last .1 .0) (c .listed2 .given .0 .0)
 found c =
     let at-read-signature = before-table (c .before .before .before .before .before) in
     let at-start = before-shared-slice-known (before-read-signature at-read-signature) in

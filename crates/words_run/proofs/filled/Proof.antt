@@ -3,7 +3,7 @@
 use native.Mathlib.Omega.{arith}
 use borrow.Author.Needs.{needs}
 use Rattle.io.proofs.Counting.{counts}
-use Rattle.logic.specs.Move.{fillAt}
+use Rattle.logic.specs.Move.{fill-at}
 use Rattle.words.proofs.Places.{is-at}
 use Rattle.moves.proofs.Fills.{done-is}
 use Rattle.words_run.proofs.Tested.{Holds, holds}
@@ -100,7 +100,7 @@ returns-6 c =
     let b = body (first (second (w .before))) in
     let f = filler (second (w .before)) in
     let answer = w .fill-into .ensures (b .term) (f .term) (is-at (b .is)) (f .is) .answer in
-    let was = done-is (b .term) (fillAt 0 (f .term) (b .term)) 0 0 _ answer _ _ (c .before .done .given .1) in
+    let was = done-is (b .term) (fill-at 0 (f .term) (b .term)) 0 0 _ answer _ _ (c .before .done .given .1) in
     let k = w .fill-into .kept .1 .1 .1 .1 .0 in
     counts _ _ (omega (arith, was .fits))
 
