@@ -35,13 +35,13 @@ use Rattle.check_call.specs.Answers.{HandedAs}
 use Rattle.shared_tests.specs.Shared.{ready-answer, prepared, constants-found, LentSo, PreparedAs}
 use Rattle.shared_tests.proofs.OwnTests.{not-prepared, PassedSo, typed-refused, TypeFound, type-found, type-refused, TypedSo, typed-so, words-within}
 use Rattle.shared_tests.specs.declared.Ready.{Ready}
-use Rattle.shared_tests.specs.declared.Ready.the-variants.{Constants, Fault}
+use Rattle.shared_tests.specs.declared.Ready.the-variants.{Constants, Refused as ReadyRefused}
 
 judged-refused : (o : Result Term) (end : ℕ) (new : List ℕ) (m p : ℕ) → o ≡ refused m p → Judged o end new (Refused m p)
 judged-refused o end new m p e = subst (λ (x : Result Term). Judged x end new (Refused m p)) (sym e) (record { answer = refl; front = tt })
 
 module _ (l : Lent) (reg table term : List ℕ) (r : Ready) (P : PreparedAs l reg table r) where
-  pub check-not-prepared : (new : List ℕ) (m p : ℕ) → r ≡ Fault m p → Judged (check-call l reg term) (length term) new (Refused m p)
+  pub check-not-prepared : (new : List ℕ) (m p : ℕ) → r ≡ ReadyRefused m p → Judged (check-call l reg term) (length term) new (Refused m p)
   check-not-prepared new m p q = judged-refused _ _ new m p (not-prepared l reg table r (check-own term) P m p q)
 
   module _ (count : ℕ) (so : PassedSo l reg table r (check-own term) P count) where

@@ -23,7 +23,7 @@ pub fn judge(sig: &[u32], n: u32, register: &[u32], term: &[u32], ws: &mut [u32]
     let mut table = [0u32; 256];
     let ready = prepare(sig, n, register, &mut table, ws);
     match ready {
-        Ready::Fault { number, place } => Derivation::Refused { number, place },
+        Ready::Refused { number, place } => Derivation::Refused { number, place },
         Ready::Constants { count } => {
             let typed = check_term(sig, &table[..count], term, MOST_WORDS, MOST_NESTING, ws);
             let Derivation::Typed { words: _, end: _ } = typed else {

@@ -7,7 +7,7 @@ use lib.ListN.{length}
 use Rattle.logic.specs.Refusals.{out-of-form}
 use Rattle.logic.specs.Result.{Result, ok, refused, _>>_, require}
 use Rattle.rules.specs.declared.derivation.Verdict.{Verdict}
-use Rattle.rules.specs.declared.derivation.Verdict.the-variants.{Passed, Fault}
+use Rattle.rules.specs.declared.derivation.Verdict.the-variants.{Passed, Refused}
 use Rattle.rules.specs.Form.{verdict-answer}
 use Rattle.typing.specs.Check.{without-value}
 use Rattle.words.specs.Place.{written-at}
@@ -57,9 +57,9 @@ module _ (l : Lent) (reg : List ℕ) (k : Ask) (hs t old : List ℕ) where
     output = x .output ∙ sym (ap (λ (o : Result (List ℕ)). after-write o old) e);
   }
 
-  pub extract-not-formed : formed hs t (length old) ≡ false → ExtractedAs l reg k hs t reg old old (Fault out-of-form 0)
+  pub extract-not-formed : formed hs t (length old) ≡ false → ExtractedAs l reg k hs t reg old old (Refused out-of-form 0)
   extract-not-formed e =
-      told (refused out-of-form 0) reg old (Fault out-of-form 0) (broken-form l reg k hs t (length old) e)
+      told (refused out-of-form 0) reg old (Refused out-of-form 0) (broken-form l reg k hs t (length old) e)
       record { answer = refl; register = refl; output = refl }
 
   module _ (e : formed hs t (length old) ≡ true) (new : List ℕ) (r : Verdict) (q : RequestedAs l reg k new r) where
@@ -74,9 +74,9 @@ module _ (l : Lent) (reg : List ℕ) (k : Ask) (hs t old : List ℕ) where
     kept : (x : Verdict) → r ≡ x → new ≡ after-request (verdict-answer x) reg k
     kept x f = q .register ∙ ap (λ (o : Result (Unit {0})). after-request o reg k) (asked x f)
 
-    pub extract-not-granted : (m place : ℕ) → r ≡ Fault m place → ExtractedAs l reg k hs t new old old r
+    pub extract-not-granted : (m place : ℕ) → r ≡ Refused m place → ExtractedAs l reg k hs t new old old r
     extract-not-granted m place f =
-        told (refused m place) new old r (outcome (Fault m place) f) record { answer = ap verdict-answer f; register = kept (Fault m place) f; output = refl }
+        told (refused m place) new old r (outcome (Refused m place) f) record { answer = ap verdict-answer f; register = kept (Refused m place) f; output = refl }
 
     pub extract-granted : (out : List ℕ) → r ≡ Passed → out ≡ written-at old 0 (joined hs t) → ExtractedAs l reg k hs t new old out Passed
     extract-granted out f w = told (ok (joined hs t)) new out Passed (outcome Passed f) record { answer = refl; register = kept Passed f; output = w }

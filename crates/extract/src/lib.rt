@@ -29,7 +29,7 @@ pub fn extract(
 {
     let fine = well_formed(homes, surveys, out.len());
     if !fine {
-        return Verdict::Fault {
+        return Verdict::Refused {
             number: OUT_OF_FORM,
             place: 0,
         };

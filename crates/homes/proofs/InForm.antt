@@ -14,8 +14,8 @@ use Rattle.homes.proofs.Joins.{home-facts, row-facts, odd, formed-facts
 
 -- ---- the place of a pair of words behind the first
 
-pub next : (ws : List ℕ) (x y k : ℕ) → getD (x ∷ y ∷ ws) (2 * suc k) 0 ≡ getD ws (2 * k) 0
-next ws x y k = let e : 2 * suc k ≡ suc (suc (2 * k)) = omega arith in ap (λ (n : ℕ). getD (x ∷ y ∷ ws) n 0) e
+pub pair-behind : (ws : List ℕ) (x y k : ℕ) → getD (x ∷ y ∷ ws) (2 * suc k) 0 ≡ getD ws (2 * k) 0
+pair-behind ws x y k = let e : 2 * suc k ≡ suc (suc (2 * k)) = omega arith in ap (λ (n : ℕ). getD (x ∷ y ∷ ws) n 0) e
 
 pub next-one : (ws : List ℕ) (x y k : ℕ) → getD (x ∷ y ∷ ws) (2 * suc k + 1) 0 ≡ getD ws (2 * k + 1) 0
 next-one ws x y k = let e : 2 * suc k + 1 ≡ suc (suc (2 * k + 1)) = omega arith in ap (λ (n : ℕ). getD (x ∷ y ∷ ws) n 0) e
@@ -48,7 +48,7 @@ rows-least least (x ∷ []) j e l = absurd (odd least x e)
 rows-least least (x ∷ c ∷ t) zero e l = row-facts least x c t e .low
 rows-least least (x ∷ c ∷ t) (suc j) e l =
     let f = row-facts least x c t e in
-    omega (arith, f .low, rows-least (x + 1) t j (f .rest) (omega arith), next t x c j)
+    omega (arith, f .low, rows-least (x + 1) t j (f .rest) (omega arith), pair-behind t x c j)
 
 pub rows-code : (least : ℕ) (t : List ℕ) (j : ℕ) → rows least t ≡ true → 2 * j + 1 < length t → getD t (2 * j + 1) 0 ≢ no-survey
 rows-code least [] j e l q = absurd (omega arith)
@@ -69,9 +69,9 @@ rows-rise : (least : ℕ) (t : List ℕ) → rows least t ≡ true → (i j : �
 rows-rise least [] e i j l m = absurd (omega arith)
 rows-rise least (h ∷ []) e i j l m = absurd (omega arith)
 rows-rise least (h ∷ c ∷ t) e i zero l m = absurd (omega arith)
-rows-rise least (h ∷ c ∷ t) e zero (suc j) l m = omega (arith, rows-least (h + 1) t j (row-facts least h c t e .rest) (omega arith), next t h c j)
+rows-rise least (h ∷ c ∷ t) e zero (suc j) l m = omega (arith, rows-least (h + 1) t j (row-facts least h c t e .rest) (omega arith), pair-behind t h c j)
 rows-rise least (h ∷ c ∷ t) e (suc i) (suc j) l m =
-    omega (arith, rows-rise (h + 1) t (row-facts least h c t e .rest) i j (omega arith) (omega arith), next t h c i, next t h c j)
+    omega (arith, rows-rise (h + 1) t (row-facts least h c t e .rest) i j (omega arith) (omega arith), pair-behind t h c i, pair-behind t h c j)
 
 is-table : (t : List ℕ) → rows 0 t ≡ true → Table t
 is-table t e =
@@ -87,8 +87,8 @@ rows-so least (h ∷ []) n w low r c = absurd (omega arith)
 rows-so least (h ∷ d ∷ t) zero w low r c = absurd (omega arith)
 rows-so least (h ∷ d ∷ t) (suc n) w low r c =
     true-both (true-both (le-leb least h (low 0 (omega arith))) (ap not (ne-eqb d no-survey (c 0 (omega arith)))))
-    (rows-so (h + 1) t n (omega arith) (λ k l. omega (arith, r 0 (suc k) (omega arith) (omega arith), next t h d k))
-    (λ i j l m. omega (arith, r (suc i) (suc j) (omega arith) (omega arith), next t h d i, next t h d j))
+    (rows-so (h + 1) t n (omega arith) (λ k l. omega (arith, r 0 (suc k) (omega arith) (omega arith), pair-behind t h d k))
+    (λ i j l m. omega (arith, r (suc i) (suc j) (omega arith) (omega arith), pair-behind t h d i, pair-behind t h d j))
     (λ i l q. c (suc i) (omega arith) (next-one t h d i ∙ q)))
 
 -- ---- the whole form

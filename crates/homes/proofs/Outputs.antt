@@ -14,7 +14,7 @@ use Rattle.words.proofs.Lists.{length-written, written-front}
 use Rattle.homes.specs.Homes.{no-survey, rows, survey-code, joined}
 use Rattle.homes.specs.Right.{Row, InForm, Right, with-code, without-code, WritingStep}
 use Rattle.homes.proofs.Joins.{row-facts, odd, formed-facts}
-use Rattle.homes.proofs.InForm.{next, next-one, rows-least, rows-code, in-form}
+use Rattle.homes.proofs.InForm.{pair-behind, next-one, rows-least, rows-code, in-form}
 
 -- ---- the words of the join
 
@@ -27,7 +27,7 @@ joined-home : (hs t : List ℕ) (k : ℕ) → k < length hs → getD (joined hs 
 unfolding joined
 joined-home [] t k l = absurd (omega arith)
 joined-home (h ∷ hs) t zero l = refl
-joined-home (h ∷ hs) t (suc k) l = next (joined hs t) h (survey-code h t) k ∙ joined-home hs t k (omega arith)
+joined-home (h ∷ hs) t (suc k) l = pair-behind (joined hs t) h (survey-code h t) k ∙ joined-home hs t k (omega arith)
 
 joined-code : (hs t : List ℕ) (k : ℕ) → k < length hs → getD (joined hs t) (2 * k + 1) 0 ≡ survey-code (getD hs k 0) t
 unfolding joined
@@ -45,7 +45,7 @@ row-found least (x ∷ []) h j e l q = absurd (odd least x e)
 row-found least (x ∷ c ∷ t) h zero e l q = ap (λ (b : Bool). cond b c (survey-code h t)) (eq-eqb x h q)
 row-found least (x ∷ c ∷ t) h (suc j) e l q =
     let f = row-facts least x c t e in
-    let p : getD t (2 * j) 0 ≡ h = sym (next t x c j) ∙ q in
+    let p : getD t (2 * j) 0 ≡ h = sym (pair-behind t x c j) ∙ q in
     let low : x + 1 ≤ getD t (2 * j) 0 = rows-least (x + 1) t j (f .rest) (omega arith) in
     ap (λ (b : Bool). cond b c (survey-code h t)) (ne-eqb x h (λ r. omega arith)) ∙ row-found (x + 1) t h j (f .rest) (omega arith) p ∙ sym (next-one t x c j)
 
@@ -53,7 +53,7 @@ row-found least (x ∷ c ∷ t) h (suc j) e l q =
 behind : (x c h d : ℕ) (t : List ℕ) → Row t h d → Row (x ∷ c ∷ t) h d
 behind x c h d t r =
     let i = r .inside in
-    record { index = suc (r .index); inside = omega arith; home = next t x c (r .index) ∙ r .home; code = next-one t x c (r .index) ∙ r .code }
+    record { index = suc (r .index); inside = omega arith; home = pair-behind t x c (r .index) ∙ r .home; code = next-one t x c (r .index) ∙ r .code }
 
 first-row : (x c h : ℕ) (t : List ℕ) (b : Bool) → eqb x h ≡ b → (cond b c (survey-code h t) ≢ no-survey) →
     (survey-code h t ≢ no-survey → Row t h (survey-code h t)) → Row (x ∷ c ∷ t) h (cond b c (survey-code h t))

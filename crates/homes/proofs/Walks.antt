@@ -8,7 +8,7 @@ use lib.Dec.{ltb}
 use lib.ListN.{length, drop, getD, set, length-append, length-drop, drop-of-length-le}
 use lib.Seq.{drop-drop, append-snoc}
 use borrow.Author.Tests.{eq-eqb, ne-eqb}
-use Rattle.homes.specs.Homes.{no-survey, formed, joined, lower, here}
+use Rattle.homes.specs.Homes.{no-survey, formed, joined, home-passed, here}
 use Rattle.words.specs.Place.{written-at}
 use Rattle.words.proofs.Lists.{drop-one, written-none, written-snoc}
 use Rattle.homes.proofs.Forms.{drop-two}
@@ -16,8 +16,8 @@ use Rattle.homes.proofs.Joins.{beyond, walked, formed-facts, walked-joi
 
 -- ---- the row at j
 
-lower-short : (h : ℕ) (ws : List ℕ) → length ws ≤ 1 → false ≡ lower h ws
-unfolding lower
+lower-short : (h : ℕ) (ws : List ℕ) → length ws ≤ 1 → false ≡ home-passed h ws
+unfolding home-passed
 lower-short h [] l = refl
 lower-short h (x ∷ []) l = refl
 lower-short h (x ∷ c ∷ ws) l = absurd (omega arith)
@@ -28,19 +28,19 @@ here-short h [] l = refl
 here-short h (x ∷ []) l = refl
 here-short h (x ∷ c ∷ ws) l = absurd (omega arith)
 
-lower-long : (h : ℕ) (ws : List ℕ) → lower h ws ≡ true → 2 ≤ length ws
-unfolding lower
+lower-long : (h : ℕ) (ws : List ℕ) → home-passed h ws ≡ true → 2 ≤ length ws
+unfolding home-passed
 lower-long h [] e = let z : _≡_ {A = ℕ} 0 1 = cc in absurd (omega arith)
 lower-long h (x ∷ []) e = let z : _≡_ {A = ℕ} 0 1 = cc in absurd (omega arith)
 lower-long h (x ∷ c ∷ ws) e = omega arith
 
 module _ (t : List ℕ) (h j : ℕ) where
-  pub no-row-lower : length t ≤ j + 1 → false ≡ lower h (drop j t)
+  pub no-row-lower : length t ≤ j + 1 → false ≡ home-passed h (drop j t)
   no-row-lower l = lower-short h (drop j t) (omega (arith, length-drop j t))
 
-  pub row-lower : j + 1 < length t → ltb (getD t j 0) h ≡ lower h (drop j t)
-  unfolding lower
-  row-lower l = sym (ap (lower h) (drop-two t j l))
+  pub row-lower : j + 1 < length t → ltb (getD t j 0) h ≡ home-passed h (drop j t)
+  unfolding home-passed
+  row-lower l = sym (ap (home-passed h) (drop-two t j l))
 
   pub no-row-here : length t ≤ j + 1 → no-survey ≡ here h (drop j t)
   no-row-here l = here-short h (drop j t) (omega (arith, length-drop j t))
@@ -53,28 +53,28 @@ module _ (t : List ℕ) (h j : ℕ) where
   unfolding here
   row-own l e = sym (ap (here h) (drop-two t j l) ∙ ap (λ (b : Bool). cond b (getD t (j + 1) 0) no-survey) (eq-eqb (getD t j 0) h e))
 
-  pub lower-inside : lower h (drop j t) ≡ true → j + 2 ≤ length t
+  pub lower-inside : home-passed h (drop j t) ≡ true → j + 2 ≤ length t
   lower-inside e = omega (arith, lower-long h (drop j t) e, length-drop j t)
 
 -- ---- what the walk does at a home
 
-beyond-lower : (h : ℕ) (ws : List ℕ) → lower h ws ≡ true → beyond h ws ≡ beyond h (drop 2 ws)
-unfolding lower beyond
+beyond-lower : (h : ℕ) (ws : List ℕ) → home-passed h ws ≡ true → beyond h ws ≡ beyond h (drop 2 ws)
+unfolding home-passed beyond
 beyond-lower h [] e = cc
 beyond-lower h (x ∷ []) e = cc
 beyond-lower h (x ∷ c ∷ ws) e = ap (λ (b : Bool). cond b (beyond h ws) (x ∷ c ∷ ws)) e
 
-beyond-not : (h : ℕ) (ws : List ℕ) → lower h ws ≡ false → beyond h ws ≡ ws
-unfolding lower beyond
+beyond-not : (h : ℕ) (ws : List ℕ) → home-passed h ws ≡ false → beyond h ws ≡ ws
+unfolding home-passed beyond
 beyond-not h [] e = refl
 beyond-not h (x ∷ []) e = refl
 beyond-not h (x ∷ c ∷ ws) e = ap (λ (b : Bool). cond b (beyond h ws) (x ∷ c ∷ ws)) e
 
-walk-over : (hs ws : List ℕ) (h : ℕ) → lower h ws ≡ true → walked (h ∷ hs) ws ≡ walked (h ∷ hs) (drop 2 ws)
+walk-over : (hs ws : List ℕ) (h : ℕ) → home-passed h ws ≡ true → walked (h ∷ hs) ws ≡ walked (h ∷ hs) (drop 2 ws)
 unfolding walked
 walk-over hs ws h e = ap (λ (m : List ℕ). h ∷ here h m ∷ walked hs m) (beyond-lower h ws e)
 
-walk-write : (hs ws : List ℕ) (h : ℕ) → lower h ws ≡ false → walked (h ∷ hs) ws ≡ h ∷ here h ws ∷ walked hs ws
+walk-write : (hs ws : List ℕ) (h : ℕ) → home-passed h ws ≡ false → walked (h ∷ hs) ws ≡ h ∷ here h ws ∷ walked hs ws
 unfolding walked
 walk-write hs ws h e = ap (λ (m : List ℕ). h ∷ here h m ∷ walked hs m) (beyond-not h ws e)
 
@@ -94,7 +94,7 @@ pub walking-start : (hs t old : List ℕ) → Walking hs t old old 0 0
 walking-start hs t old = record { sofar = []; count = refl; same = refl; done = sym (written-none old 0) }
 
 module _ {hs t old out : List ℕ} {i j : ℕ} (w : Walking hs t old out i j) where
-  pub walking-over : i < length hs → lower (getD hs i 0) (drop j t) ≡ true → Walking hs t old out i (j + 2)
+  pub walking-over : i < length hs → home-passed (getD hs i 0) (drop j t) ≡ true → Walking hs t old out i (j + 2)
   walking-over h e =
       let hd : drop i hs ≡ getD hs i 0 ∷ drop (i + 1) hs = drop-one hs i h in
       let s : walked (drop i hs) (drop j t) ≡ walked (drop i hs) (drop (j + 2) t) =
@@ -102,7 +102,7 @@ module _ {hs t old out : List ℕ} {i j : ℕ} (w : Walking hs t old out i j) wh
       ∙ ap₂ walked (sym hd) (drop-drop 2 j t) in
       record { sofar = w .sofar; count = w .count; same = w .same ∙ ap (λ (m : List ℕ). w .sofar ++ m) s; done = w .done }
 
-  pub walking-write : (c : ℕ) → i < length hs → 2 * length hs ≤ length old → lower (getD hs i 0) (drop j t) ≡ false → c ≡ here (getD hs i 0) (drop j t) →
+  pub walking-write : (c : ℕ) → i < length hs → 2 * length hs ≤ length old → home-passed (getD hs i 0) (drop j t) ≡ false → c ≡ here (getD hs i 0) (drop j t) →
       Walking hs t old (set (set out (2 * i) (getD hs i 0)) (2 * i + 1) c) (i + 1) j
   walking-write c h r e q =
       let x : ℕ = getD hs i 0 in

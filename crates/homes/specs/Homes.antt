@@ -70,10 +70,10 @@ pub record Wrote (o : Result (List ℕ)) (old new : List ℕ) (r : ℕ) : Type 0
 -- ---- the first row of what is left of a table
 
 -- it is of a lower home
-unfoldable pub lower : ℕ → List ℕ → Bool
-lower h [] = false
-lower h (x ∷ []) = false
-lower h (x ∷ c ∷ t) = ltb x h
+unfoldable pub home-passed : ℕ → List ℕ → Bool
+home-passed h [] = false
+home-passed h (x ∷ []) = false
+home-passed h (x ∷ c ∷ t) = ltb x h
 
 -- its code, if it is of this home
 unfoldable pub here : ℕ → List ℕ → ℕ

@@ -5,7 +5,7 @@ ghost use mathlib.Core.Path.{_≡_};
 ghost use Prim.Native.Nat.{_≤_};
 ghost use lib.ListN.{length, drop};
 ghost use Rattle.words.specs.Place.{written-at};
-ghost use Rattle.homes.specs.Homes.{rising, rows, formed, joined, lower, here, write-call, Wrote};
+ghost use Rattle.homes.specs.Homes.{rising, rows, formed, joined, home-passed, here, write-call, Wrote};
 
 pub const MOST_HOMES: usize = 1024;
 
@@ -74,7 +74,7 @@ pub fn well_formed(homes: &[u32], surveys: &[u32], room: usize) -> bool
 // Whether the row at j is of a lower home.
 fn passed_over(surveys: &[u32], j: usize, home: u32) -> bool
     requires { ⌜ j ≤ length (now surveys) ⌝ }
-    ensures { λ r. ⌜ r ≡ lower home (drop j (now (surveys .entry))) ⌝ }
+    ensures { λ r. ⌜ r ≡ home-passed home (drop j (now (surveys .entry))) ⌝ }
 {
     if surveys.len() <= j + 1 {
         return false;

@@ -12,7 +12,7 @@ use Rattle.logic.specs.Term.{Term}
 use Rattle.rules.specs.declared.derivation.Derivation.{Derivation}
 use Rattle.rules.specs.declared.derivation.Derivation.the-variants.{Typed, Refused}
 use Rattle.rules.specs.declared.derivation.Verdict.{Verdict}
-use Rattle.rules.specs.declared.derivation.Verdict.the-variants.{Passed, Fault}
+use Rattle.rules.specs.declared.derivation.Verdict.the-variants.{Passed, Refused as VerdictRefused}
 use Rattle.rules.specs.Form.{verdict-answer}
 use Rattle.typing.specs.Check.{Judged, without-value}
 use Rattle.typing.proofs.Verdicts.{passed-told}
@@ -23,7 +23,7 @@ use Rattle.shared_tests.proofs.OwnTests.{words-within}
 use Rattle.check_call.proofs.Checks.{handed-type, handed-nothing}
 use Rattle.say.specs.Said.{said-answer, SaysAs}
 use Rattle.say.specs.declared.Said.{Said}
-use Rattle.say.specs.declared.Said.the-variants.{Added, Held, Fault as Not-said}
+use Rattle.say.specs.declared.Said.the-variants.{Added, Held, Refused as SaidRefused}
 use Rattle.extract.specs.Extract.{extract-call}
 use Rattle.extract.proofs.Demands.{extract-bound}
 use Rattle.host.specs.Answers.{number-unit, place-limit, code-of, added-of, SaidTo, TypedTo}
@@ -57,7 +57,7 @@ module _ (o : Result (Unit {0})) (r : Verdict) (v : verdict-answer r ≡ o) wher
   pub granted-code : r ≡ Passed → 0 ≡ code-of o
   granted-code q = ap code-of (sym (ap verdict-answer q) ∙ v)
 
-  pub not-granted-is : (m p : ℕ) → r ≡ Fault m p → o ≡ refused m p
+  pub not-granted-is : (m p : ℕ) → r ≡ VerdictRefused m p → o ≡ refused m p
   not-granted-is m p q = sym v ∙ ap verdict-answer q
 
 pub open-fits : (l : Lent) (reg rules : List ℕ) (m p : ℕ) → length (l .sig) + length rules < place-limit → open-call l reg rules ≡ refused m p → Fits m p
@@ -88,10 +88,10 @@ module _ (l : Lent) (old : List ℕ) (st : Statement) (new : List ℕ) (r : Said
   pub said-held : r ≡ Held → SaidTo l old st new 0 0
   said-held f = let e = told f in record { answer = ap code-of e; register = S .register; added-is = ap added-of e }
 
-  pub unsaid-is : (m p : ℕ) → r ≡ Not-said m p → o ≡ refused m p
+  pub unsaid-is : (m p : ℕ) → r ≡ SaidRefused m p → o ≡ refused m p
   unsaid-is m p f = sym (told f)
 
-  pub said-nothing : (m p : ℕ) → r ≡ Not-said m p → (code : ℕ) → code ≡ m * number-unit + p → SaidTo l old st new 0 code
+  pub said-nothing : (m p : ℕ) → r ≡ SaidRefused m p → (code : ℕ) → code ≡ m * number-unit + p → SaidTo l old st new 0 code
   said-nothing m p f code c = let e = unsaid-is m p f in record { answer = refused-code o m p code e c; register = S .register; added-is = sym (ap added-of e) }
 
 pub say-fits : (l : Lent) (reg : List ℕ) (st : Statement) (m p : ℕ) → length (l .sig) + length (st .words) < place-limit →

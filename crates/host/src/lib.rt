@@ -46,7 +46,7 @@ pub extern "C" fn aura0_open(
     let verdict = open(signature, n, register, rules, workspace);
     match verdict {
         Verdict::Passed => 0,
-        Verdict::Fault { number, place } => code(number, place),
+        Verdict::Refused { number, place } => code(number, place),
     }
 }
 
@@ -74,7 +74,7 @@ pub extern "C" fn aura0_say(
             *added = 0;
             0
         }
-        Said::Fault { number, place } => {
+        Said::Refused { number, place } => {
             *added = 0;
             code(number, place)
         }
@@ -108,7 +108,7 @@ pub extern "C" fn aura0_request(
     );
     match verdict {
         Verdict::Passed => 0,
-        Verdict::Fault { number, place } => code(number, place),
+        Verdict::Refused { number, place } => code(number, place),
     }
 }
 
@@ -147,7 +147,7 @@ pub extern "C" fn aura0_extract(
     );
     match verdict {
         Verdict::Passed => 0,
-        Verdict::Fault { number, place } => code(number, place),
+        Verdict::Refused { number, place } => code(number, place),
     }
 }
 

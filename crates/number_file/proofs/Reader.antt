@@ -186,9 +186,9 @@ module _ {bs old out : List ℕ} {first this other : ℕ} {begun : Bool} {value 
       unfolding by-end
       line-open n = refuses (closed ∙ ap by-end (ne-eqb other feed n))
 
-      pub read-whole : other ≡ feed → ReadAs all old out (Whole count)
+      pub read-to-end : other ≡ feed → ReadAs all old out (Whole count)
       unfolding by-end
-      read-whole e =
+      read-to-end e =
           whole all old out (r .numbers-so-far) count
           (r .same ∙ ap (behind (r .numbers-so-far)) (closed ∙ ap by-end (eq-eqb other feed e)) ∙ ap ok (append-nil (r .numbers-so-far)))
           (r .many) (r .done)

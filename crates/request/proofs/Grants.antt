@@ -23,7 +23,7 @@ use Rattle.words.proofs.Sames.{same-types}
 use Rattle.rules.specs.declared.derivation.Derivation.{Derivation}
 use Rattle.rules.specs.declared.derivation.Derivation.the-variants.{Typed, Refused}
 use Rattle.rules.specs.declared.derivation.Verdict.{Verdict}
-use Rattle.rules.specs.declared.derivation.Verdict.the-variants.{Passed, Fault}
+use Rattle.rules.specs.declared.derivation.Verdict.the-variants.{Passed, Refused as VerdictRefused}
 use Rattle.rules.specs.Form.{verdict-answer}
 use Rattle.typing.specs.Check.{typed-term, Judged}
 use Rattle.records.specs.Answers.{Room, unheld-answer}
@@ -37,7 +37,7 @@ use Rattle.register.proofs.Succeeds.{demand2}
 use Rattle.register.proofs.Words.{unbroken-right}
 use Rattle.shared_tests.specs.Shared.{PreparedAs}
 use Rattle.shared_tests.specs.declared.Ready.{Ready}
-use Rattle.shared_tests.specs.declared.Ready.the-variants.{Fault as Unready}
+use Rattle.shared_tests.specs.declared.Ready.the-variants.{Refused as ReadyRefused}
 use Rattle.shared_tests.proofs.OwnTests.{PassedSo, not-prepared, typed-so, TypedSo, typed-refused, TypeFound, type-found, type-refused, words-within}
 use Rattle.request.specs.Requested.{RequestedAs}
 
@@ -107,7 +107,7 @@ module _ (l : Lent) (Σ : List Term) (rs : List Record) (reg : List ℕ) (k : As
 -- ---- all tests
 
 module _ (l : Lent) (reg table : List ℕ) (k : Ask) (r : Ready) (P : PreparedAs l reg table r) where
-  pub request-not-prepared : (m place : ℕ) → r ≡ Unready m place → refused m place ≡ request-call l reg k
+  pub request-not-prepared : (m place : ℕ) → r ≡ ReadyRefused m place → refused m place ≡ request-call l reg k
   request-not-prepared m place q = sym (not-prepared l reg table r (request-own k) P m place q)
 
   module _ (count : ℕ) (so : PassedSo l reg table r (request-own k) P count) where
@@ -155,7 +155,7 @@ module _ (l : Lent) (reg table : List ℕ) (k : Ask) (r : Ready) (P : PreparedAs
 -- ---- what a request leaves
 
 module _ (l : Lent) (reg : List ℕ) (k : Ask) (r : Verdict) (e : verdict-answer r ≡ request-call l reg k) where
-  pub request-refused : (m place : ℕ) → r ≡ Fault m place → RequestedAs l reg k reg r
+  pub request-refused : (m place : ℕ) → r ≡ VerdictRefused m place → RequestedAs l reg k reg r
   request-refused m place q = record { answer = e; register = ap (λ (o : Result (Unit {0})). after-request o reg k) (sym (ap verdict-answer q) ∙ e) }
 
   module _ (q : r ≡ Passed) where

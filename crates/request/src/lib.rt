@@ -85,7 +85,7 @@ fn proves(
 {
     let wanted = permits(ws, n, operation, extract);
     if !wanted {
-        return Verdict::Fault {
+        return Verdict::Refused {
             number: ANOTHER_PROPOSITION,
             place: 0,
         };
@@ -93,13 +93,13 @@ fn proves(
     let view = view_of(register);
     let unheld = first_unheld(view.source, register, proof);
     if let Unheld::At(place) = unheld {
-        return Verdict::Fault {
+        return Verdict::Refused {
             number: NOT_HELD,
             place,
         };
     }
     if view.size - view.used < proof.len() + GRANT_WORDS {
-        return Verdict::Fault {
+        return Verdict::Refused {
             number: REGISTER_FULL,
             place: 0,
         };
@@ -125,18 +125,18 @@ fn grantable(
     let mut table = [0u32; 256];
     let ready = prepare(sig, n, register, &mut table, ws);
     match ready {
-        Ready::Fault { number, place } => Verdict::Fault { number, place },
+        Ready::Refused { number, place } => Verdict::Refused { number, place },
         Ready::Constants { count } => {
             let fine = numbers(n, operation, extract, delivery);
             if !fine {
-                return Verdict::Fault {
+                return Verdict::Refused {
                     number: BAD_NUMBER,
                     place: 0,
                 };
             }
             let typed = check_term(sig, &table[..count], proof, MOST_WORDS, MOST_NESTING, ws);
             match typed {
-                Derivation::Refused { number, place } => Verdict::Fault { number, place },
+                Derivation::Refused { number, place } => Verdict::Refused { number, place },
                 Derivation::Typed { words, end: _ } => {
                     proves(register, operation, extract, proof, &ws[..], words)
                 }

@@ -33,7 +33,7 @@ use Rattle.rules.specs.Rule.{ready}
 use Rattle.rules.specs.Scope.{tail, entry-head, binder-entry}
 use Rattle.rules.specs.Form.{front-words, level-words}
 use Rattle.rules.specs.Enter.{Enters, keep-of, entered-answer, EntryKept, Entering, Kept, Keepable}
-use Rattle.rules.specs.declared.enter.Entered.the-variants.{Fits, Fails}
+use Rattle.rules.specs.declared.enter.Entered.the-variants.{Fits, Refused}
 use Rattle.rules.proofs.Fronts.{atom-first, type-part}
 use Rattle.rules.proofs.Kepts.{kept-tail, kept-type, kept-none}
 
@@ -214,7 +214,7 @@ module _ {o : Op} {at : ℕ} {a A : Term} {n : ℕ} {test : Result (Unit {0})} {
         );
       }
 
-  fails : {m : ℕ} (used : ℕ) (old : List ℕ) → test ≡ refused m at → Entering o at a A n used old old (Fails m)
+  fails : {m : ℕ} (used : ℕ) (old : List ℕ) → test ≡ refused m at → Entering o at a A n used old old (Refused m)
   fails used old e =
       let t = rule .tests ∙ e in
       record { answer = sym (stop-then _ t); kept = subst (λ (u : Result (Unit {0})). EntryKept u o at a A used old old) (sym t) refl }
@@ -241,7 +241,7 @@ module _ {proof ws : List ℕ} {at next n : ℕ} {o : Op} {a A : Term} (used : �
   pub app-passes : tag-of (getD proof at 0) ≡ tag-app → getD ws 0 0 ≡ op-word piO → Entering o at a A n used ws ws (Fits n used)
   app-passes t e = passes-none (app-rule o at a A n _ (j .head) t) (node-passes _ piO e)
 
-  pub app-fails : tag-of (getD proof at 0) ≡ tag-app → (getD ws 0 0 ≡ op-word piO → ⊥) → Entering o at a A n used ws ws (Fails not-a-function)
+  pub app-fails : tag-of (getD proof at 0) ≡ tag-app → (getD ws 0 0 ≡ op-word piO → ⊥) → Entering o at a A n used ws ws (Refused not-a-function)
   app-fails t q = fails (app-rule o at a A n _ (j .head) t) used ws (node-fails _ piO q)
 
   -- what `keep_says` asks
@@ -272,7 +272,7 @@ module _ {proof ws : List ℕ} {at next n : ℕ} {o : Op} {a A : Term} (used : �
       ∙ ap (λ (B : Term). entry-head + size B) (sym (i .is)) in
       passes (bind-rule o at a A n _ (j .head) t) used ws new r (node-passes _ saysO e) k (omega arith) (j .type)
 
-  pub bind-fails : tag-of (getD proof at 0) ≡ tag-bind → (getD ws 0 0 ≡ op-word saysO → ⊥) → Entering o at a A n used ws ws (Fails condition-fails)
+  pub bind-fails : tag-of (getD proof at 0) ≡ tag-bind → (getD ws 0 0 ≡ op-word saysO → ⊥) → Entering o at a A n used ws ws (Refused condition-fails)
   bind-fails t q = fails (bind-rule o at a A n _ (j .head) t) used ws (node-fails _ saysO q)
 
   -- what `kind` answers
@@ -301,7 +301,7 @@ module _ {proof ws : List ℕ} {at next n : ℕ} {o : Op} {a A : Term} (used : �
 
   pub binder-fails : {k : ℕ} {b : Bool} → (tag-of (getD proof at 0) ≡ tag-bind → ⊥) → k ≡ shape-kind (word-shape (getD proof at 0)) → k ≡ kind-binder
       → b ≡ false
-      → Answers b → Entering o at a A n used ws ws (Fails condition-fails)
+      → Answers b → Entering o at a A n used ws ws (Refused condition-fails)
   binder-fails {k} {b} t e i d f = fails (binder-rule o at a A n _ (j .head) t (kind-found k e ∙ i)) used ws (ap (condition at) (sym (domain-is b f) ∙ d))
 
   pub plain-passes : {k : ℕ} {b : Bool} → (tag-of (getD proof at 0) ≡ tag-app → ⊥) → k ≡ shape-kind (word-shape (getD proof at 0)) → (k ≡ kind-binder → ⊥)
@@ -311,5 +311,5 @@ module _ {proof ws : List ℕ} {at next n : ℕ} {o : Op} {a A : Term} (used : �
 
   pub plain-fails : {k : ℕ} {b : Bool} → (tag-of (getD proof at 0) ≡ tag-app → ⊥) → k ≡ shape-kind (word-shape (getD proof at 0)) → (k ≡ kind-binder → ⊥)
       → b ≡ false
-      → b ≡ same A N → Entering o at a A n used ws ws (Fails condition-fails)
+      → b ≡ same A N → Entering o at a A n used ws ws (Refused condition-fails)
   plain-fails {k} t e q d f = fails (plain-rule o at a A n _ (j .head) t (λ i. q (sym (kind-found k e) ∙ i))) used ws (ap (condition at) (sym f ∙ d))

@@ -12,7 +12,7 @@ use Rattle.rules.specs.Rule.{ready}
 use Rattle.rules.specs.Scope.{tail, binder-entry}
 use Rattle.rules.specs.Form.{front-words, level-words}
 use Rattle.rules.specs.declared.enter.Entered.{Entered}
-use Rattle.rules.specs.declared.enter.Entered.the-variants.{Fits, Fails}
+use Rattle.rules.specs.declared.enter.Entered.the-variants.{Fits, Refused}
 
 -- the first child a of a node o stands in the proof, and its type A at the front of the workspace
 pub record Enters (proof ws : List ℕ) (at next n : ℕ) (o : Op) (a A : Term) : Type 0 where
@@ -57,7 +57,7 @@ keep-of bindO n = 0
 -- number and values of each case, of a node at the place `at`: the words kept at the front and at the end
 abbrev pub entered-answer : (at : ℕ) → Entered → Result (ℕ × ℕ)
 entered-answer at (Fits keep used) = ok (keep, used)
-entered-answer at (Fails number) = refused number at
+entered-answer at (Refused number) = refused number at
 
 -- the test passed: the entry of the binder, if any, is kept at the end, before what
 -- was; or it failed, and nothing was written

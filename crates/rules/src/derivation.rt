@@ -7,5 +7,5 @@ pub enum Derivation {
 // What tests answer that give no type.
 pub enum Verdict {
     Passed,
-    Fault { number: u32, place: usize },
+    Refused { number: u32, place: usize },
 }

@@ -33,7 +33,7 @@ ghost use Rattle.rules.specs.Enter.{Enters, NodeEnterable, Entering, Kep
 // or the number with which the test fails.
 pub enum Entered {
     Fits { keep: usize, used: usize },
-    Fails { number: u32 },
+    Refused { number: u32 },
 }
 
 // Whether a type that begins with this word is one that a domain may have: T, P or KindP, which have no other word.
@@ -108,7 +108,7 @@ pub fn enter(
         if ws[0] == PI {
             return Entered::Fits { keep: n, used };
         }
-        return Entered::Fails {
+        return Entered::Refused {
             number: NOT_A_FUNCTION,
         };
     }
@@ -120,7 +120,7 @@ pub fn enter(
                 used: kept,
             };
         }
-        return Entered::Fails {
+        return Entered::Refused {
             number: CONDITION_FAILS,
         };
     }
@@ -133,7 +133,7 @@ pub fn enter(
                 used: kept,
             };
         }
-        return Entered::Fails {
+        return Entered::Refused {
             number: CONDITION_FAILS,
         };
     }
@@ -142,7 +142,7 @@ pub fn enter(
     if fine {
         return Entered::Fits { keep: 0, used };
     }
-    Entered::Fails {
+    Entered::Refused {
         number: CONDITION_FAILS,
     }
 }

@@ -16,7 +16,7 @@ use Rattle.logic.specs.Check.{check-statement}
 use Rattle.logic.proofs.Check.{check-statement-right}
 use Rattle.words.specs.Place.{Is}
 use Rattle.rules.specs.declared.derivation.Verdict.{Verdict}
-use Rattle.rules.specs.declared.derivation.Verdict.the-variants.{Passed, Fault as Refusal}
+use Rattle.rules.specs.declared.derivation.Verdict.the-variants.{Passed, Refused as VerdictRefused}
 use Rattle.rules.specs.Form.{verdict-answer}
 use Rattle.typing.specs.Check.{without-value}
 use Rattle.typing.proofs.Verdicts.{fault-told, passed-told}
@@ -31,11 +31,11 @@ use Rattle.register.proofs.Succeeds.{demand2}
 use Rattle.register.proofs.Words.{unbroken-right}
 use Rattle.shared_tests.specs.Shared.{PreparedAs}
 use Rattle.shared_tests.specs.declared.Ready.{Ready}
-use Rattle.shared_tests.specs.declared.Ready.the-variants.{Fault as Unready}
+use Rattle.shared_tests.specs.declared.Ready.the-variants.{Refused as ReadyRefused}
 use Rattle.shared_tests.proofs.OwnTests.{PassedSo, not-prepared}
 use Rattle.say.specs.Said.{said-answer, SaysAs}
 use Rattle.say.specs.declared.Said.{Said}
-use Rattle.say.specs.declared.Said.the-variants.{Added, Held, Fault}
+use Rattle.say.specs.declared.Said.the-variants.{Added, Held, Refused as SaidRefused}
 
 -- ---- tests 14 and 16, and whether the statement is held
 
@@ -90,7 +90,7 @@ statement-so Σ sig st r e q =
 -- ---- all tests
 
 module _ (l : Lent) (reg table : List ℕ) (st : Statement) (r : Ready) (P : PreparedAs l reg table r) where
-  pub say-not-prepared : (m place : ℕ) → r ≡ Unready m place → refused m place ≡ say-call l reg st
+  pub say-not-prepared : (m place : ℕ) → r ≡ ReadyRefused m place → refused m place ≡ say-call l reg st
   say-not-prepared m place q = sym (not-prepared l reg table r (say-own st) P m place q)
 
   module _ (count : ℕ) (so : PassedSo l reg table r (say-own st) P count) where
@@ -113,7 +113,7 @@ module _ (l : Lent) (reg table : List ℕ) (st : Statement) (r : Ready) (P : Pre
         numbers-right = so .is ∙ ap (λ (b : Bool). numbered b (eqb (st .principal) 0)) (lt-ltb (st .principal) payloads h) ∙ ap
             (numbered true) (ne-eqb (st .principal) 0 n)
 
-        pub say-not-stated : (m place : ℕ) → d ≡ Refusal m place → refused m place ≡ say-call l reg st
+        pub say-not-stated : (m place : ℕ) → d ≡ VerdictRefused m place → refused m place ≡ say-call l reg st
         say-not-stated m place q = sym (numbers-right ∙ ap behind (fault-told (check-statement (so .Σ) (st .principal) (st .words)) d m place e q))
 
         pub say-stated : (S : StatementSo (so .Σ) st) (x : Said) → said-answer x ≡
@@ -123,7 +123,7 @@ module _ (l : Lent) (reg table : List ℕ) (st : Statement) (r : Ready) (P : Pre
 -- ---- what a say leaves
 
 module _ (l : Lent) (reg : List ℕ) (st : Statement) (r : Said) (e : said-answer r ≡ say-call l reg st) where
-  pub say-refused : (m place : ℕ) → r ≡ Fault m place → SaysAs l reg st reg (Fault m place)
+  pub say-refused : (m place : ℕ) → r ≡ SaidRefused m place → SaysAs l reg st reg (SaidRefused m place)
   say-refused m place q = let h = sym (ap said-answer q) ∙ e in record { answer = h; register = ap (λ (o : Result Bool). after-say o reg st) h }
 
   pub say-held : r ≡ Held → SaysAs l reg st reg Held

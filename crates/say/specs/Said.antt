@@ -11,14 +11,14 @@ use Rattle.words.specs.Place.{Is}
 use Rattle.register.specs.Records.{Record, Statement, register-records}
 use Rattle.register.specs.Calls.{Lent, say-call, after-say}
 use Rattle.say.specs.declared.Said.{Said}
-use Rattle.say.specs.declared.Said.the-variants.{Added, Held, Fault}
+use Rattle.say.specs.declared.Said.the-variants.{Added, Held, Refused}
 
 -- number, place and value of each case: whether it added a record. "Success answers 0 at place 0, and say also whether
 -- it added a record"
 abbrev pub said-answer : Said → Result Bool
 said-answer Added = ok true
 said-answer Held = ok false
-said-answer (Fault m p) = refused m p
+said-answer (Refused m p) = refused m p
 
 -- the answer, and the register afterwards
 pub record SaysAs (l : Lent) (old : List ℕ) (st : Statement) (new : List ℕ) (r : Said) : Type 0 where

@@ -30,7 +30,7 @@ ghost use Rattle.say.specs.Said.{said-answer, SaysAs, Enterable};
 pub enum Said {
     Added,
     Held,
-    Fault { number: u32, place: usize },
+    Refused { number: u32, place: usize },
 }
 
 // Tests 14 and 16, and whether the statement is held, of a proposition that passed the others.
@@ -43,7 +43,7 @@ fn addable(register: &[u32], principal: u32, proposition: &[u32]) -> Said
     let view = view_of(register);
     let unheld = first_unheld(view.source, register, proposition);
     if let Unheld::At(place) = unheld {
-        return Said::Fault {
+        return Said::Refused {
             number: NOT_HELD,
             place,
         };
@@ -53,7 +53,7 @@ fn addable(register: &[u32], principal: u32, proposition: &[u32]) -> Said
         return Said::Held;
     }
     if view.size - view.used < proposition.len() + STATEMENT_WORDS {
-        return Said::Fault {
+        return Said::Refused {
             number: REGISTER_FULL,
             place: 0,
         };
@@ -76,23 +76,23 @@ fn sayable(
     let mut table = [0u32; 256];
     let ready = prepare(sig, n, register, &mut table, ws);
     match ready {
-        Ready::Fault { number, place } => Said::Fault { number, place },
+        Ready::Refused { number, place } => Said::Refused { number, place },
         Ready::Constants { count } => {
             if PAYLOADS <= principal {
-                return Said::Fault {
+                return Said::Refused {
                     number: BAD_NUMBER,
                     place: 0,
                 };
             }
             if principal == DESK {
-                return Said::Fault {
+                return Said::Refused {
                     number: DESK_SAYS,
                     place: 0,
                 };
             }
             let stated = check_statement(sig, &table[..count], proposition, ws);
             match stated {
-                Verdict::Fault { number, place } => Said::Fault { number, place },
+                Verdict::Refused { number, place } => Said::Refused { number, place },
                 Verdict::Passed => addable(register, principal, proposition),
             }
         }
@@ -118,6 +118,6 @@ pub fn say(
             Said::Added
         }
         Said::Held => Said::Held,
-        Said::Fault { number, place } => Said::Fault { number, place },
+        Said::Refused { number, place } => Said::Refused { number, place },
     }
 }

@@ -34,7 +34,7 @@ use Rattle.register.specs.Calls.{Lent, Outline, View, view, length-test, shared
 use Rattle.shared_tests.specs.Shared.{ready-answer, prepared, constants-found, LentSo, PreparedAs}
 use Rattle.shared_tests.proofs.SharedTests.{bind-bind}
 use Rattle.shared_tests.specs.declared.Ready.{Ready}
-use Rattle.shared_tests.specs.declared.Ready.the-variants.{Constants, Fault}
+use Rattle.shared_tests.specs.declared.Ready.the-variants.{Constants, Refused as ReadyRefused}
 
 -- ---- a call's own tests come behind the shared ones
 
@@ -53,12 +53,12 @@ own-tests l o records own =
     then-bind (require (operations-test Σ (l .n)) bad-number 0) (ok (view l o rs Σ)) own)))))
 
 -- what an answer that refuses tells
-pub not-ready : (o : Result View) (r : Ready) → ready-answer r ≡ constants-found o → (m p : ℕ) → r ≡ Fault m p → o ≡ refused m p
+pub not-ready : (o : Result View) (r : Ready) → ready-answer r ≡ constants-found o → (m p : ℕ) → r ≡ ReadyRefused m p → o ≡ refused m p
 not-ready o r e m p q = not-mapped (λ v. length (v .Σ)) o (sym e ∙ ap ready-answer q)
 
 module _ {Y : Type 0} (l : Lent) (reg table : List ℕ) (r : Ready) (own : View → Result Y) (P : PreparedAs l reg table r) where
   -- the shared tests refused
-  pub not-prepared : (m p : ℕ) → r ≡ Fault m p → on-register l reg own ≡ refused m p
+  pub not-prepared : (m p : ℕ) → r ≡ ReadyRefused m p → on-register l reg own ≡ refused m p
   not-prepared m p q = own-tests l (outline-of reg) (register-records reg) own ∙ stop own (not-ready (prepared l reg) r (P .answer) m p q)
 
   -- or found a register that is not broken and a signature that is accepted

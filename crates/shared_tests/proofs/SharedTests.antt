@@ -19,7 +19,7 @@ use Rattle.typing.specs.Check.{ConstantsOf}
 use Rattle.signature.specs.Listing.{SignatureRead}
 use Rattle.signature.proofs.Accepted.{list-refused, ConstantsRead}
 use Rattle.signature.specs.declared.list.Listed.{Listed}
-use Rattle.signature.specs.declared.list.Listed.the-variants.{Bad}
+use Rattle.signature.specs.declared.list.Listed.the-variants.{Refused as ListedRefused}
 use Rattle.records.specs.Answers.{record-count, contents-answer}
 use Rattle.records.specs.declared.walk.Contents.{Contents}
 use Rattle.records.specs.declared.walk.Contents.the-variants.{Broken, Whole}
@@ -29,7 +29,7 @@ use Rattle.register.specs.Calls.{Lent, Outline, View, view, length-test, shared
 use Rattle.shared_tests.specs.Shared.{lengths-test, signed, ready-answer, SignedAs, constants-found, prepared}
 use Rattle.shared_tests.specs.Shared.{prepared-to-open, LentSo, PreparedAs, OpenedAs}
 use Rattle.shared_tests.specs.declared.Ready.{Ready}
-use Rattle.shared_tests.specs.declared.Ready.the-variants.{Constants, Fault}
+use Rattle.shared_tests.specs.declared.Ready.the-variants.{Constants, Refused as ReadyRefused}
 
 -- ---- tests 1 and 2
 
@@ -91,11 +91,11 @@ lengths-refused w r number e n = go (leb least-workspace w) (leb header r && leb
 -- ---- tests 4 and 5
 
 -- they refuse
-signs-refused : (sig table : List ℕ) (n m p : ℕ) → signed sig n ≡ refused m p → SignedAs sig n table (Fault m p)
+signs-refused : (sig table : List ℕ) (n m p : ℕ) → signed sig n ≡ refused m p → SignedAs sig n table (ReadyRefused m p)
 signs-refused sig table n m p e = record { answer = sym (stop _ e); constants = λ Σ f. absurd (not-ok (sym e ∙ f)) }
 
-pub signature-bad : (sig table : List ℕ) (n p : ℕ) (r : Listed) → SignatureRead (signature sig) sig table r → r ≡ Bad p →
-    SignedAs sig n table (Fault bad-signature p)
+pub signature-bad : (sig table : List ℕ) (n p : ℕ) (r : Listed) → SignatureRead (signature sig) sig table r → r ≡ ListedRefused p →
+    SignedAs sig n table (ReadyRefused bad-signature p)
 signature-bad sig table n p r R q = signs-refused sig table n bad-signature p (stop _ (list-refused sig table p r R q))
 
 module _ (sig table : List ℕ) (n count : ℕ) (C : ConstantsRead sig table count) where
@@ -113,7 +113,7 @@ module _ (sig table : List ℕ) (n count : ℕ) (C : ConstantsRead sig table cou
             subst (λ (S : List Term). ConstantsOf sig (take (length S) table) S) (ok-inj (sym h ∙ f)) c;
       }
 
-  pub operations-unfit : (b : Bool) → b ≡ operations-test (C .Σ) n → b ≡ false → SignedAs sig n table (Fault bad-number 0)
+  pub operations-unfit : (b : Bool) → b ≡ operations-test (C .Σ) n → b ≡ false → SignedAs sig n table (ReadyRefused bad-number 0)
   operations-unfit b e q = signs-refused sig table n bad-number 0 (signed-is false (sym q ∙ e))
 
 -- ---- all of them, before a call's own tests
@@ -194,7 +194,7 @@ module _ (l : Lent) (t : Outline) (rs : List Record) (table : List ℕ) (r : Rea
   })
 
 module _ (l : Lent) (len : ℕ) (table : List ℕ) where
-  pub opened-refused : (number : ℕ) → number ≡ number-of (lengths-test (l .workspace) len) → (number ≡ 0 → ⊥) → OpenedAs l len table (Fault number 0)
+  pub opened-refused : (number : ℕ) → number ≡ number-of (lengths-test (l .workspace) len) → (number ≡ 0 → ⊥) → OpenedAs l len table (ReadyRefused number 0)
   opened-refused number e n =
       let h = shared-refused l (fresh-outline len) ok (ok []) (lengths-refused (l .workspace) len number e n) in
       record { answer = sym (stop _ h); passed = λ v f. absurd (not-ok (sym h ∙ f)) }
@@ -209,16 +209,16 @@ module _ (l : Lent) (len : ℕ) (table : List ℕ) where
       }
 
 module _ (l : Lent) (reg table : List ℕ) where
-  unprepared : (m p : ℕ) → prepared l reg ≡ refused m p → PreparedAs l reg table (Fault m p)
+  unprepared : (m p : ℕ) → prepared l reg ≡ refused m p → PreparedAs l reg table (ReadyRefused m p)
   unprepared m p h = record { answer = sym (stop _ h); passed = λ v f. absurd (not-ok (sym h ∙ f)) }
 
   pub prepared-refused : (number : ℕ) → number ≡ number-of (lengths-test (l .workspace) (length reg)) → (number ≡ 0 → ⊥) →
-      PreparedAs l reg table (Fault number 0)
+      PreparedAs l reg table (ReadyRefused number 0)
   prepared-refused number e n = unprepared number 0
       (shared-refused l (outline-of reg) ok (register-records reg) (lengths-refused (l .workspace) (length reg) number e n))
 
   module _ (c : Contents) (L : Lengths (l .workspace) (length reg)) (e : contents-answer c ≡ record-count reg) where
-    pub prepared-broken : c ≡ Broken → PreparedAs l reg table (Fault register-broken 0)
+    pub prepared-broken : c ≡ Broken → PreparedAs l reg table (ReadyRefused register-broken 0)
     prepared-broken q = unprepared register-broken 0 (shared-broken l (outline-of reg) ok (register-records reg) (L .passed) (contents-broken reg c e q))
 
     pub prepared-as : (k : ℕ) (r : Ready) → c ≡ Whole k → SignedAs (l .sig) (l .n) table r → PreparedAs l reg table r

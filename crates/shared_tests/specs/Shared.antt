@@ -13,7 +13,7 @@ use Rattle.typing.specs.Check.{ConstantsOf}
 use Rattle.register.specs.Records.{Record, header, register-records}
 use Rattle.register.specs.Calls.{Lent, Outline, View, view, length-test, shared, outline-of, fresh-outline, on-register}
 use Rattle.shared_tests.specs.declared.Ready.{Ready}
-use Rattle.shared_tests.specs.declared.Ready.the-variants.{Constants, Fault}
+use Rattle.shared_tests.specs.declared.Ready.the-variants.{Constants, Refused}
 
 -- what a call is lent: of the workspace only the length matters
 abbrev pub lent-of : (sig : List ℕ) (n : ℕ) (workspace : List ℕ) → Lent
@@ -30,7 +30,7 @@ signed sig n = signature sig >>= λ Σ. require (operations-test Σ n) bad-numbe
 -- number, place and value of each case: how many constants there are
 abbrev pub ready-answer : Ready → Result ℕ
 ready-answer (Constants n) = ok n
-ready-answer (Fault m p) = refused m p
+ready-answer (Refused m p) = refused m p
 
 -- the answer; and where the signature is accepted, the first words of the table say where its constants' types stand
 pub record SignedAs (sig : List ℕ) (n : ℕ) (table : List ℕ) (r : Ready) : Type 0 where

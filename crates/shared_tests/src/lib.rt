@@ -22,7 +22,7 @@ ghost use Rattle.shared_tests.specs.Shared.{lengths-test, lent-of, Signe
 // How many constants the signature has; or a test refuses.
 pub enum Ready {
     Constants { count: usize },
-    Fault { number: u32, place: usize },
+    Refused { number: u32, place: usize },
 }
 
 // Tests 4 and 5.
@@ -32,7 +32,7 @@ fn accept(sig: &[u32], n: u32, table: &mut [u32], ws: &mut [u32]) -> Ready
 {
     let listed = read_signature(sig, table, ws);
     match listed {
-        Listed::Bad { place } => Ready::Fault {
+        Listed::Refused { place } => Ready::Refused {
             number: BAD_SIGNATURE,
             place,
         },
@@ -41,7 +41,7 @@ fn accept(sig: &[u32], n: u32, table: &mut [u32], ws: &mut [u32]) -> Ready
             if fine {
                 Ready::Constants { count }
             } else {
-                Ready::Fault {
+                Ready::Refused {
                     number: BAD_NUMBER,
                     place: 0,
                 }
@@ -73,7 +73,7 @@ pub fn lend(sig: &[u32], n: u32, register: usize, table: &mut [u32], ws: &mut [u
 {
     let number = lengths(ws.len(), register);
     if number != 0 {
-        return Ready::Fault { number, place: 0 };
+        return Ready::Refused { number, place: 0 };
     }
     accept(sig, n, table, ws)
 }
@@ -85,11 +85,11 @@ pub fn prepare(sig: &[u32], n: u32, register: &[u32], table: &mut [u32], ws: &mu
 {
     let number = lengths(ws.len(), register.len());
     if number != 0 {
-        return Ready::Fault { number, place: 0 };
+        return Ready::Refused { number, place: 0 };
     }
     let contents = walk(register);
     if let Contents::Broken = contents {
-        return Ready::Fault {
+        return Ready::Refused {
             number: REGISTER_BROKEN,
             place: 0,
         };

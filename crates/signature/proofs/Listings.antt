@@ -36,7 +36,7 @@ use Rattle.typing.specs.Check.{ConstantsOf, typed-term, Judged}
 use Rattle.signature.specs.Listing.{succeeded, constant-at, SignatureRead}
 use Rattle.rules.specs.declared.derivation.Derivation.{Derivation}
 use Rattle.rules.specs.declared.derivation.Derivation.the-variants.{Typed, Refused}
-use Rattle.signature.specs.declared.list.Listed.the-variants.{Accepted, Bad}
+use Rattle.signature.specs.declared.list.Listed.the-variants.{Accepted, Refused as ListedRefused}
 use Rattle.logic.proofs.SignatureList.{constant-right}
 
 -- ---- one constant
@@ -233,7 +233,7 @@ read-up-to-start sig table = record {
 
 -- the list is refused at a place
 refused-at : (sig table : List ℕ) (at k : ℕ) (Σ : List Term) (ws : List ℕ) → signature sig ≡ constants k at Σ ws → 0 < k
-    → ((k : ℕ) → constants (suc k) at Σ ws ≡ refused bad-signature at) → SignatureRead (signature sig) sig table (Bad at)
+    → ((k : ℕ) → constants (suc k) at Σ ws ≡ refused bad-signature at) → SignatureRead (signature sig) sig table (ListedRefused at)
 refused-at sig table at zero Σ ws e l f = absurd (omega arith)
 refused-at sig table at (suc k) Σ ws e l f = let q = e ∙ f k in record { answer = sym (stop _ q); constants = λ Σ i. absurd (not-ok (sym q ∙ i)) }
 
@@ -241,12 +241,12 @@ module _ (sig table : List ℕ) (at count : ℕ) (R : ReadUpTo sig table at coun
   more-words : at < length sig → 0 < length (drop at sig)
   more-words l = omega (arith, length-drop at sig)
 
-  pub reading-full : (new : List ℕ) → at < length sig → most-constants ≤ count → SignatureRead (signature sig) sig new (Bad at)
+  pub reading-full : (new : List ℕ) → at < length sig → most-constants ≤ count → SignatureRead (signature sig) sig new (ListedRefused at)
   reading-full new l h =
       refused-at sig new at (R .k) (R .Σ) (drop at sig) (R .is) (omega (arith, R .enough))
       (λ k. full-list k at (R .Σ) (drop at sig) (more-words l) (omega (arith, R .counted)))
 
-  pub reading-bad : (new : List ℕ) → at < length sig → constant-at (R .Σ) (drop at sig) ≡ false → SignatureRead (signature sig) sig new (Bad at)
+  pub reading-bad : (new : List ℕ) → at < length sig → constant-at (R .Σ) (drop at sig) ≡ false → SignatureRead (signature sig) sig new (ListedRefused at)
   reading-bad new l h =
       refused-at sig new at (R .k) (R .Σ) (drop at sig) (R .is) (omega (arith, R .enough)) (λ k. bad-constant k at (R .Σ) (drop at sig) (more-words l) h)
 

@@ -13,12 +13,12 @@ use Rattle.logic.specs.SignatureList.{constant}
 use Rattle.rules.specs.Scope.{Declared}
 use Rattle.typing.specs.Check.{ConstantsOf}
 use Rattle.signature.specs.declared.list.Listed.{Listed}
-use Rattle.signature.specs.declared.list.Listed.the-variants.{Accepted, Bad}
+use Rattle.signature.specs.declared.list.Listed.the-variants.{Accepted, Refused}
 
 -- number, place and value of each case: how many constants, or the place of the first bad one's length word
 abbrev pub listed-answer : Listed → Result ℕ
 listed-answer (Accepted n) = ok n
-listed-answer (Bad p) = refused bad-signature p
+listed-answer (Refused p) = refused bad-signature p
 
 -- a signature list was read: the first words of the table say where the constants' types stand
 pub record SignatureRead (o : Result (List Term)) (sig table : List ℕ) (r : Listed) : Type 0 where

@@ -23,7 +23,7 @@ ghost use Rattle.signature.specs.Listing.{constant-at, succeeded, Listab
 // How many constants a signature has that is accepted, or the place of the first bad constant's length word.
 pub enum Listed {
     Accepted { count: usize },
-    Bad { place: usize },
+    Refused { place: usize },
 }
 
 // Whether words are those of a permit's type, Pi S P, or of a receipt's, Pi S Pi S P, which pass behind any constants.
@@ -86,11 +86,11 @@ pub fn read_signature(sig: &[u32], table: &mut [u32], ws: &mut [u32]) -> Listed
     let mut count: usize = 0;
     while at < sig.len() {
         if MOST_CONSTANTS <= count {
-            return Listed::Bad { place: at };
+            return Listed::Refused { place: at };
         }
         let fine = constant(sig, &table[..count], at, ws);
         if !fine {
-            return Listed::Bad { place: at };
+            return Listed::Refused { place: at };
         }
         table[count] = (at + 1) as u32;
         at = at + 1 + sig[at] as usize;

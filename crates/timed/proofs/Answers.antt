@@ -16,7 +16,7 @@ use Rattle.rules.specs.declared.derivation.Derivation.the-variants.{Typed, Refu
 use Rattle.typing.specs.Check.{typed-term, Judged}
 use Rattle.signature.specs.Listing.{SignatureRead}
 use Rattle.signature.specs.declared.list.Listed.{Listed}
-use Rattle.signature.specs.declared.list.Listed.the-variants.{Bad}
+use Rattle.signature.specs.declared.list.Listed.the-variants.{Refused as ListedRefused}
 use Rattle.signature.proofs.Accepted.{list-refused, ConstantsRead}
 use Rattle.timed.specs.Timed.{timed-tests}
 
@@ -31,7 +31,7 @@ module _ (workspace : ℕ) (sig term : List ℕ) where
     past : timed-tests workspace sig term ≡ rest (signature sig)
     past = ap (λ (b : Bool). require b workspace-short 0 >> rest (signature sig)) (le-leb least-workspace workspace enough)
 
-    pub bad : (table : List ℕ) (r : Listed) (p : ℕ) → SignatureRead (signature sig) sig table r → r ≡ Bad p
+    pub bad : (table : List ℕ) (r : Listed) (p : ℕ) → SignatureRead (signature sig) sig table r → r ≡ ListedRefused p
         → bad-signature ≡ number-of (timed-tests workspace sig term)
     bad table r p R q = sym (ap number-of (past ∙ stop _ (list-refused sig table p r R q)))
 

@@ -25,7 +25,7 @@ pub extern "C" fn timed_check(signature: &[u32], term: &[u32], workspace: &mut [
     let mut table = [0u32; MOST_CONSTANTS];
     let listed = read_signature(signature, &mut table, workspace);
     match listed {
-        Listed::Bad { place: _ } => BAD_SIGNATURE,
+        Listed::Refused { place: _ } => BAD_SIGNATURE,
         Listed::Accepted { count } => {
             let typed = check_term(
                 signature,

@@ -45,7 +45,7 @@ use Rattle.rules.proofs.Fronts.{typed-by, refused-by}
 use Rattle.rules.specs.declared.derivation.Derivation.{Derivation}
 use Rattle.rules.specs.declared.derivation.Derivation.the-variants.{Typed, Refused}
 use Rattle.rules.specs.declared.enter.Entered.{Entered}
-use Rattle.rules.specs.declared.enter.Entered.the-variants.{Fits, Fails}
+use Rattle.rules.specs.declared.enter.Entered.the-variants.{Fits, Refused as EnteredRefused}
 use Rattle.typing.proofs.Tails.{tail-kept, rest-of, whole-of, rest-tail, whole-tail, whole-length, whole-is}
 use Rattle.typing.proofs.Uniform.{node-rule, uniform}
 
@@ -168,7 +168,7 @@ record Failed (mid mid2 : List ℕ) (o : Op) (at : ℕ) (A : Term) (m : ℕ) : T
   fails : ready o at A ≡ refused m at
   unchanged : mid2 ≡ mid
 
-failed : (o : Op) (at : ℕ) (a A : Term) (n used : ℕ) (mid mid2 : List ℕ) (r : Entered) (m : ℕ) → Entering o at a A n used mid mid2 r → r ≡ Fails m
+failed : (o : Op) (at : ℕ) (a A : Term) (n used : ℕ) (mid mid2 : List ℕ) (r : Entered) (m : ℕ) → Entering o at a A n used mid mid2 r → r ≡ EnteredRefused m
     → Failed mid mid2 o at A m
 failed o at a A n used mid mid2 r m e q = stopped-then (ready o at A) _ (sym (e .answer) ∙ ap (entered-answer at) q)
     (λ i. record { fails = i; unchanged = subst (λ (x : Result (Unit {0})). EntryKept x o at a A used mid mid2) i (e .kept) })
@@ -571,7 +571,7 @@ first-refusal {ws} {used} {at} {Σ} {Γ} {o} {a} {b} new r m p R d q =
 
 pub test-refusal : {sig table proof ws : List ℕ} {floor used at left : ℕ} {Σ Γ : List Term} {o : Op} {a b : Term} (mid mid2 : List ℕ) (next n : ℕ)
     → SubjectAt sig table proof ws floor used at left Σ Γ (node o a b)
-    → (B : BetweenChildren proof ws mid used at next n Σ Γ o a) → (e : Entered) (m : ℕ) → Entering o at a (B .type) n used mid mid2 e → e ≡ Fails m
+    → (B : BetweenChildren proof ws mid used at next n Σ Γ o a) → (e : Entered) (m : ℕ) → Entering o at a (B .type) n used mid mid2 e → e ≡ EnteredRefused m
     → Derived (infer Σ Γ at (node o a b)) (at + size (node o a b)) used ws mid2 (Refused m at)
 test-refusal {ws} {used} {at} {Σ} {Γ} {o} {a} {b} mid mid2 next n R B e m E q =
     let F = failed o at a (B .type) n used mid mid2 e m E q in

@@ -53,7 +53,7 @@ pub fn check_term(
         };
     }
     let whole = read_whole(term);
-    if let Parse::Bad(place) = whole {
+    if let Parse::Refused(place) = whole {
         return Derivation::Refused {
             number: MALFORMED,
             place,
@@ -85,18 +85,18 @@ pub fn check_statement(sig: &[u32], table: &[u32], proposition: &[u32], ws: &mut
         ws,
     );
     match typed {
-        Derivation::Refused { number, place } => Verdict::Fault { number, place },
+        Derivation::Refused { number, place } => Verdict::Refused { number, place },
         Derivation::Typed { words, end: _ } => {
             let fine = front_is(&ws[..], PROP);
             if !fine {
-                return Verdict::Fault {
+                return Verdict::Refused {
                     number: CONDITION_FAILS,
                     place: 0,
                 };
             }
             // Says, the principal and the proposition
             if MOST_TYPE_WORDS < proposition.len() + 2 {
-                return Verdict::Fault {
+                return Verdict::Refused {
                     number: TYPE_TOO_LONG,
                     place: 0,
                 };

@@ -85,6 +85,6 @@ pub fn derive(
             };
             formed(proof, ws, kept, at, next, n, m, end)
         }
-        Entered::Fails { number } => Derivation::Refused { number, place: at },
+        Entered::Refused { number } => Derivation::Refused { number, place: at },
     }
 }

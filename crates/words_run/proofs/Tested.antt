@@ -19,14 +19,14 @@ use Rattle.words.proofs.Parses.{whole-term}
 use Rattle.words.proofs.Places.{size-is}
 
 -- ws is one term of n words
-pub record Holds (ws : List ℕ) (n : ℕ) : Type 0 where
+pub record OneTerm (ws : List ℕ) (n : ℕ) : Type 0 where
   pub term : Term
   pub is : Is ws term
   pub count : n ≡ size term
   pub words : length ws ≡ n
 
-pub holds : (ws : List ℕ) {r : Parse} (n : ℕ) → parse-answer r ≡ whole-end (read-whole ws) → r ≡ End n → Holds ws n
-holds ws n e q =
+pub one-term : (ws : List ℕ) {r : Parse} (n : ℕ) → parse-answer r ≡ whole-end (read-whole ws) → r ≡ End n → OneTerm ws n
+one-term ws n e q =
     let (t, i, is, c) = whole-term ws n (sym e ∙ ap parse-answer q) in
     record { term = t; is = is; count = c; words = size-is ws t is ∙ sym c }
 

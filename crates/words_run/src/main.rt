@@ -124,7 +124,7 @@ fn read(label: &[u8], words: &[u32]) {
             io::write_all(1, b": ends at ");
             io::print_decimal(1, end as u64);
         }
-        Parse::Bad(place) => {
+        Parse::Refused(place) => {
             io::write_all(1, b": bad at ");
             io::print_decimal(1, place as u64);
         }

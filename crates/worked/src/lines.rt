@@ -44,7 +44,7 @@ fn print_answer(example: &[u8], call: &[u8], number: u32, place: usize) {
 fn print_verdict(example: &[u8], call: &[u8], verdict: Verdict) {
     match verdict {
         Verdict::Passed => print_answer(example, call, 0, 0),
-        Verdict::Fault { number, place } => print_answer(example, call, number, place),
+        Verdict::Refused { number, place } => print_answer(example, call, number, place),
     }
     io::write_all(1, b"\n");
 }
@@ -69,7 +69,7 @@ pub(crate) fn say_line(example: &[u8], register: &mut [u32], principal: u32, pro
             print_answer(example, b"say", 0, 0);
             io::write_all(1, b" held");
         }
-        Said::Fault { number, place } => print_answer(example, b"say", number, place),
+        Said::Refused { number, place } => print_answer(example, b"say", number, place),
     }
     io::write_all(1, b"\n");
 }

@@ -7,7 +7,7 @@ use mathlib.Core.Bool.{true}
 use mathlib.Core.Path.{_≡_, refl, sym, _∙_}
 use lib.ListN.{length, drop, getD, set, length-set}
 use borrow.Author.Needs.{needs}
-use Rattle.homes.specs.Homes.{lower}
+use Rattle.homes.specs.Homes.{home-passed}
 use Rattle.homes.proofs.Joins.{Formed, formed-facts}
 use Rattle.homes.proofs.Walks.{Walking, walking-start, walking-over, walking-write, walking-end, lower-inside}
 use Rattle.homes.proofs.join.Statement.{statement}
@@ -40,7 +40,7 @@ abbrev home : tie.At-loop Inv-loop μ-loop → ℕ
 home l = getD (loop-start l .args .homes .now) (l .loop .k) 0
 
 over : (c : tie.Then1 Inv-loop μ-loop) →
-    lower (home (turn (c .before))) (drop (turn (c .before) .loop .j) (loop-start (turn (c .before)) .args .surveys .now)) ≡ true
+    home-passed (home (turn (c .before))) (drop (turn (c .before) .loop .j) (loop-start (turn (c .before)) .args .surveys .now)) ≡ true
 over c = sym (c .before .passed-over .ensures) ∙ c .if1 .taken
 
 inside : (c : tie.Then1 Inv-loop μ-loop) → turn (c .before) .loop .j + 2 ≤ length (loop-start (turn (c .before)) .args .surveys .now)

@@ -8,7 +8,7 @@ use lib.ListN.{length, length-set}
 use borrow.Author.Tests.{not-true, not-false}
 use borrow.Author.Needs.{needs}
 use Rattle.logic.proofs.Stopped.{passed-not}
-use Rattle.number_file.proofs.Reader.{Reading, reading-start, no-number, number-ends, wrong-byte, digit-read, number-open, line-open, read-whole}
+use Rattle.number_file.proofs.Reader.{Reading, reading-start, no-number, number-ends, wrong-byte, digit-read, number-open, line-open, read-to-end}
 use Rattle.number_file.proofs.read_numbers.Statement.{statement}
 use Rattle.number_file.proofs.read_numbers.Tie as tie
 
@@ -117,7 +117,7 @@ same-length-5 : tie.Need-same-length-5 Inv-loop μ-loop
 same-length-5 c = c .before .before .before .loop .inv .1
 
 returns-5 : tie.Need-returns-5 Inv-loop μ-loop
-returns-5 c = read-whole (c .before .before .before .loop .inv .4) (omega arith) (c .before .if3 .left) (c .if4 .left)
+returns-5 c = read-to-end (c .before .before .before .loop .inv .4) (omega arith) (c .before .if3 .left) (c .if4 .left)
 
 pub read-numbers-spec : {M : Type 1} → statement M
 read-numbers-spec =

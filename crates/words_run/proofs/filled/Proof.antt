@@ -6,7 +6,7 @@ use Rattle.io.proofs.Counting.{counts}
 use Rattle.logic.specs.Move.{fill-at}
 use Rattle.words.proofs.Places.{is-at}
 use Rattle.moves.proofs.Fills.{done-is}
-use Rattle.words_run.proofs.Tested.{Holds, holds}
+use Rattle.words_run.proofs.Tested.{OneTerm, one-term}
 use Rattle.words_run.proofs.filled.Statement.{statement}
 use Rattle.words_run.proofs.filled.Tie as tie
 
@@ -31,11 +31,11 @@ second c = c .before .before .before .before
 
 -- ---- what holds there
 
-body : (c : tie.After-first) → Holds (start (body-read c) .args .body .now) (c .first .given .0 .0)
-body c = holds (start (body-read c) .args .body .now) _ (body-read c .read-whole .ensures) (c .first .given .1)
+body : (c : tie.After-first) → OneTerm (start (body-read c) .args .body .now) (c .first .given .0 .0)
+body c = one-term (start (body-read c) .args .body .now) _ (body-read c .read-whole .ensures) (c .first .given .1)
 
-filler : (c : tie.After-second) → Holds (start (body-read (first c)) .args .filler .now) (c .second .given .0 .0)
-filler c = holds (start (body-read (first c)) .args .filler .now) _ (filler-read c .read-whole2 .ensures) (c .second .given .1)
+filler : (c : tie.After-second) → OneTerm (start (body-read (first c)) .args .filler .now) (c .second .given .0 .0)
+filler c = one-term (start (body-read (first c)) .args .filler .now) _ (filler-read c .read-whole2 .ensures) (c .second .given .1)
 
 -- ---- the needs
 

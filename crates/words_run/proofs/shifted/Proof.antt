@@ -5,7 +5,7 @@ use mir.Syntax.{w32}
 use native.Mathlib.Omega.{arith}
 use borrow.Author.Needs.{needs}
 use Rattle.io.proofs.Counting.{counts}
-use Rattle.words_run.proofs.Tested.{Holds, holds, near}
+use Rattle.words_run.proofs.Tested.{OneTerm, one-term, near}
 use Rattle.words_run.proofs.shifted.Statement.{statement}
 use Rattle.words_run.proofs.shifted.Tie as tie
 
@@ -23,8 +23,8 @@ tested c = c .before .before .before
 
 -- ---- what holds there
 
-term : (c : tie.After-read) → Holds (start c .args .words .now) (c .read .given .0 .0)
-term c = holds (start c .args .words .now) _ (c .before .before .read-whole .ensures) (c .read .given .1)
+term : (c : tie.After-read) → OneTerm (start c .args .words .now) (c .read .given .0 .0)
+term c = one-term (start c .args .words .now) _ (c .before .before .read-whole .ensures) (c .read .given .1)
 
 -- ---- the needs
 
