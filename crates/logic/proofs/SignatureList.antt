@@ -64,8 +64,7 @@ listed (suc k) at Σ (n ∷ ws) {Σ′} sig e =
       words = h .term .words;
       some-word = h .term .some-word;
       not-more = rw long (leb-true n most-constant-words short);
-      nested = h
-          .term .nested;
+      nested = h .term .nested;
     } in
     rw (long, take-append-drop n ws) at (one-more (ltb-true (length Σ) most-constants few) w (h .derivation) (h .measured)
     (listed k _ (Σ ++ (A ∷ [])) (drop n ws) (extend sig (h .derivation)) e₂))

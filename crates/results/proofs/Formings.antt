@@ -150,8 +150,7 @@ module _ (proof ws : List ℕ) (used at next n m end : ℕ) where
           binds = bind-says j;
           small = p .small-second;
           small-kept = omega arith;
-          room =
-              omega arith;
+          room = omega arith;
         }
 
     pub pairable : (o′ : Op) → keep-of o′ n ≡ 0 → eqb (getD proof at 0) (op-word o′) ≡ true → Pairable proof ws at next m

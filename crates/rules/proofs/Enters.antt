@@ -252,8 +252,7 @@ module _ {proof ws : List ℕ} {at next n : ℕ} {o : Op} {a A : Term} (used : �
         p = i .left;
         q = i .right;
         type = subst (TypeAt ws 0) (i .is) (j .type);
-        type-words = j .type-words
-            ∙ ap size (i .is);
+        type-words = j .type-words ∙ ap size (i .is);
         small = small;
         room = room;
       }

@@ -5,7 +5,6 @@ use mathlib.Core.Path.{_≡_, sym, ap, ap₂, _∙_}
 use mathlib.Core.List.{List, [], _++_}
 use lib.ListN.{length, take, drop, take-append-drop}
 use Rattle.logic.specs.Term.{Term, size}
-use Rattle.words.specs.Place.{written-at}
 use Rattle.words.specs.Typed.{TypeAt}
 use Rattle.words.proofs.Lists.{length-written, written-none, take-written, drop-written}
 use Rattle.rules.specs.Scope.{tail}

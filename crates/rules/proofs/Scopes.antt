@@ -165,6 +165,5 @@ passed-all {proof} {ws} {floor} {used} {kept} {Γ} left n m h f =
     subst (BinderFound proof ws floor used n Γ) e (record {
       least = least;
       most = f .most;
-      binders = subst (Binders proof (scope-words floor kept ws)) q
-          (f .binders);
+      binders = subst (Binders proof (scope-words floor kept ws)) q (f .binders);
     })

@@ -221,8 +221,7 @@ read-up-to-start sig table = record {
   constants-are =
       record {
         declared = record { count = refl; type = λ n A e. absurd (no-entry e); length-word = λ n A e. absurd (no-entry e) };
-        signature =
-            empty-signature;
+        signature = empty-signature;
       };
   is = refl;
   enough = omega arith;
@@ -330,8 +329,7 @@ module _ (sig table : List ℕ) (at count : ℕ) (R : ReadUpTo sig table at coun
           constants-are =
               record {
                 declared = subst (λ (x : List ℕ). Declared sig x (R .Σ ++ (O .type ∷ []))) (sym more-table) d;
-                signature = extend
-                    (R .constants-are .signature) (O .kind);
+                signature = extend (R .constants-are .signature) (O .kind);
               };
           is = R .is ∙ ap (λ (i : ℕ). constants i at (R .Σ) (drop at sig)) K ∙ O .goes-on
               ∙ ap (λ (i : ℕ). constants k (at + 1 + i) (R .Σ ++ (O .type ∷ [])) (drop (1 + i) (drop at sig))) length-word-is

@@ -109,6 +109,5 @@ left-next {ws} {at} {count} {end} n p e l = go (l .terms) (l .row) (l .number) (
           rest = l .rest;
           row = row-next t ts r;
           number = omega (arith, behind-length t ts);
-          ends = omega
-              (arith, behind-size t ts);
+          ends = omega (arith, behind-size t ts);
         }

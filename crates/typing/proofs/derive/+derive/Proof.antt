@@ -131,6 +131,13 @@ before-derive3 t c = c .before .before .before
 abbrev before-second : (t : ℕ) → lts.After-second (calls t) (given t) derive.Post → lts.After-derive3 (calls t) (given t) derive.Post
 before-second t c = c .before .before .before .before
 
+-- of a node: the place where the kind is known, from behind `enter`, and the start, from there
+abbrev node-of : (t : ℕ) → lts.After-enter (calls t) (given t) derive.Post → lts.Else3 (calls t) (given t) derive.Post
+node-of t c = before-joined4 t (before-first t (before-enter t c))
+
+abbrev start-of : (t : ℕ) → lts.Else3 (calls t) (given t) derive.Post → lts.Start (calls t) (given t) derive.Post
+start-of t c = before-shared-slice-known t (before-kind t (before-else3 t c))
+
 kind-known : (t : ℕ) (c : lts.After-kind (calls t) (given t) derive.Post) (u : Term) →
     let at-start = before-shared-slice-known t (before-kind t c) in
     At (at-start .args .proof .now) (at-start .args .at) u → c .kind .result ≡ term-kind u
@@ -153,7 +160,7 @@ sign-at t c =
 
 -- a node, of any term that stands there
 as-node : (t : ℕ) (c : lts.Else3 (calls t) (given t) derive.Post) (Σ Γ : List Term) (u : Term) (F : Term → Type 0) →
-    let at-start = before-shared-slice-known t (before-kind t (before-else3 t c)) in
+    let at-start = start-of t c in
     Here t at-start Σ Γ u → ((o : Op) (a b : Term) → Here t at-start Σ Γ (node o a b) → F (node o a b)) → F u
 as-node t c Σ Γ u F R f =
     let at-kind = before-else3 t c in
@@ -168,31 +175,31 @@ NodeHere t s =
 
 -- of the term that `requires` brought
 node-at : (t : ℕ) (c : lts.Else3 (calls t) (given t) derive.Post) →
-    let at-start = before-shared-slice-known t (before-kind t (before-else3 t c)) in
+    let at-start = start-of t c in
     NodeHere t at-start
 node-at t c =
-    let at-start = before-shared-slice-known t (before-kind t (before-else3 t c)) in
+    let at-start = start-of t c in
     let p = at-start .pre .1 in
     as-node t c (p .Σ) (p .Γ) (p .term) (λ u. NodeHere t at-start) (p .ready) (λ o a b R. record { o = o; a = a; b = b; ready-node = R })
 
 -- the first child starts within the proof
 child-within : (t : ℕ) (c : lts.Else3 (calls t) (given t) derive.Post) →
-    let at-start = before-shared-slice-known t (before-kind t (before-else3 t c)) in
+    let at-start = start-of t c in
     at-start .args .at + 1 < length (at-start .args .proof .now)
 child-within t c = let M = node-at t c in let a = at-end (at-left (M .ready-node .here)) in let b = size-pos (M .a) in omega arith
 
 child-known : (t : ℕ) (c : lts.After-kind2 (calls t) (given t) derive.Post) (u : Term) →
-    let at-start = before-shared-slice-known t (before-kind t (before-else3 t (c .before .before))) in
+    let at-start = start-of t (c .before .before) in
     At (at-start .args .proof .now) (at-start .args .at + 1) u → c .kind2 .result ≡ term-kind u
 child-known t c u h = c .kind2 .ensures ∙ at-kind h
 
 -- the first child is derived, by either way
 first-derives : (t : ℕ) (c : lts.Joined4 (calls t) (given t) derive.Post) →
-    let at-start = before-shared-slice-known t (before-kind t (before-else3 t (before-joined4 t c))) in
+    let at-start = start-of t (before-joined4 t c) in
     let a = at-start .args in
     Derives (a .sig .now) (a .table .now) (a .proof .now) (a .ws .now) (a .floor) (a .used) (a .at + 1) (a .left - 1) (c .if4 .ws) (c .if4 .first)
 first-derives t c =
-    let at-start = before-shared-slice-known t (before-kind t (before-else3 t (before-joined4 t c))) in
+    let at-start = start-of t (before-joined4 t c) in
     ⊎-elim
     (λ w. carried (w .5) (w .6)
     (λ Σ Γ u R. atom-derived (c .before .kind2 .result) _ (w .2 .result) (w .2 .kept .1 .1 .0) (omega (arith, at-start .pre .1 .room)) u
@@ -201,14 +208,14 @@ first-derives t c =
     (c .if4 .came)
 
 first-length : (t : ℕ) (c : lts.Joined4 (calls t) (given t) derive.Post) →
-    let at-start = before-shared-slice-known t (before-kind t (before-else3 t (before-joined4 t c))) in
+    let at-start = start-of t (before-joined4 t c) in
     length (c .if4 .ws) ≡ length (at-start .args .ws .now)
 first-length t c = ⊎-elim (λ w. ap length (w .5) ∙ w .2 .kept .1 .1 .0) (λ w. ap length (w .5) ∙ w .2 .kept .1 .1 .1 .0) (c .if4 .came)
 
 -- the workspace keeps its length
 mid-length : (t : ℕ) (c : lts.After-entered (calls t) (given t) derive.Post) →
     let at-enter = before-entered t c in
-    let at-start = before-shared-slice-known t (before-kind t (before-else3 t (before-joined4 t (before-first t (before-enter t at-enter))))) in
+    let at-start = start-of t (node-of t at-enter) in
     length (at-enter .enter .last .1 .0) ≡ length (at-start .args .ws .now)
 mid-length t c =
     let at-enter = before-entered t c in
@@ -219,7 +226,7 @@ module _ (t : ℕ) {Σ Γ : List Term} {o : Op} {a b : Term} where
   -- the first child has its type
   first-typed : (c : lts.After-first (calls t) (given t) derive.Post) →
       let at-joined4 = before-first t c in
-      let at-start = before-shared-slice-known t (before-kind t (before-else3 t (before-joined4 t at-joined4))) in
+      let at-start = start-of t (before-joined4 t at-joined4) in
       Here t at-start Σ Γ (node o a b) → BetweenChildren (at-start .args .proof .now) (at-start .args .ws .now) (at-joined4 .if4 .ws) (at-start .args .used)
       (at-start .args .at) (c .first .given .0 .1 .0) (c .first .given .0 .0) Σ Γ o a
   first-typed c R = between-children R _ (c .before .before .if4 .first) _ _ (first-derives t (c .before .before)) (c .first .given .1)
@@ -229,7 +236,7 @@ module _ (t : ℕ) {Σ Γ : List Term} {o : Op} {a b : Term} where
       let at-enter = before-entered t c in
       let at-first = before-enter t at-enter in
       let at-joined4 = before-first t at-first in
-      let at-start = before-shared-slice-known t (before-kind t (before-else3 t (before-joined4 t at-joined4))) in
+      let at-start = start-of t (before-joined4 t at-joined4) in
       (R : Here t at-start Σ Γ (node o a b)) →
       Inside (at-joined4 .if4 .ws) (at-enter .enter .last .1 .0) (at-start .args .used) (at-start .args .at) (at-first .first .given .0 .0)
       (c .entered .given .0 .0) (c .entered .given .0 .1 .0) o a (first-typed at-first R .type)
@@ -240,39 +247,43 @@ module _ (t : ℕ) {Σ Γ : List Term} {o : Op} {a b : Term} where
       inside-node o _ a (B .type) _ _ _ _ (at-enter .enter .result) _ _ (at-enter .enter .ensures o a (B .type) (B .enters)) (c .entered .given .1)
 
   level-kept : (c : lts.After-entered (calls t) (given t) derive.Post) →
-      let at-start = before-shared-slice-known t (before-kind t (before-else3 t (before-joined4 t (before-first t (before-enter t (before-entered t c)))))) in
+      let at-start = start-of t (node-of t (before-entered t c)) in
       Here t at-start Σ Γ (node o a b) → c .entered .given .0 .0 + c .entered .given .0 .1 .0 ≤ at-start .args .used + level-words
   level-kept c R =
       let at-first = before-enter t (before-entered t c) in
-      let at-start = before-shared-slice-known t (before-kind t (before-else3 t (before-joined4 t (before-first t at-first)))) in
+      let at-start = start-of t (before-joined4 t (before-first t at-first)) in
       let p = at-start .pre .1 in level R _ _ _ _ _ _ (first-typed at-first R) (test-passed c R) (p .below) (mid-length t c) (p .room)
 
   second-ready-here : (c : lts.After-entered (calls t) (given t) derive.Post) →
       let at-enter = before-entered t c in
       let at-first = before-enter t at-enter in
-      let at-start = before-shared-slice-known t (before-kind t (before-else3 t (before-joined4 t (before-first t at-first)))) in
+      let at-start = start-of t (before-joined4 t (before-first t at-first)) in
       (R : Here t at-start Σ Γ (node o a b)) →
       SubjectAt (at-start .args .sig .now) (at-start .args .table .now) (at-start .args .proof .now)
       (rest-of (c .entered .given .0 .0) (at-enter .enter .last .1 .0)) (at-start .args .floor) (c .entered .given .0 .1 .0)
       (at-first .first .given .0 .1 .0) (at-start .args .left - 1) Σ (within o a (first-typed at-first R .type) Γ) b
   second-ready-here c R =
       let at-first = before-enter t (before-entered t c) in
-      let at-start = before-shared-slice-known t (before-kind t (before-else3 t (before-joined4 t (before-first t at-first)))) in
+      let at-start = start-of t (before-joined4 t (before-first t at-first)) in
       let p = at-start .pre .1 in second-ready R _ _ _ _ _ _ (first-typed at-first R) (test-passed c R) (p .below) (mid-length t c) (p .room)
+
+-- what is kept at the front is a part of the workspace
+keep-fits : (t : ℕ) (c : lts.After-entered (calls t) (given t) derive.Post) →
+    c .entered .given .0 .0 ≤ length (before-entered t c .enter .last .1 .0)
+keep-fits t c =
+    let at-else3 = node-of t (before-entered t c) in
+    let R = node-at t at-else3 .ready-node in
+    omega (arith, level-kept t c R, two-deep R, start-of t at-else3 .pre .1 .room, mid-length t c)
 
 -- and has it again behind the second child
 back : (t : ℕ) (c : lts.After-entered (calls t) (given t) derive.Post) (part : List ℕ) →
     let at-enter = before-entered t c in
-    let at-start = before-shared-slice-known t (before-kind t (before-else3 t (before-joined4 t (before-first t (before-enter t at-enter))))) in
+    let at-start = start-of t (node-of t at-enter) in
     length part ≡ length (rest-of (c .entered .given .0 .0) (at-enter .enter .last .1 .0)) → length
     (whole-of (c .entered .given .0 .0) (at-enter .enter .last .1 .0) part) ≡ length (at-start .args .ws .now)
 back t c part e =
     let at-enter = before-entered t c in
-    let at-else3 = before-enter t at-enter .before .before .before .before .before in
-    let at-start = before-shared-slice-known t (before-kind t (before-else3 t at-else3)) in
-    let R = node-at t at-else3 .ready-node in
-    whole-length (c .entered .given .0 .0) (at-enter .enter .last .1 .0) part
-    (omega (arith, level-kept t c R, two-deep R, at-start .pre .1 .room, mid-length t c)) e ∙ mid-length t c
+    whole-length (c .entered .given .0 .0) (at-enter .enter .last .1 .0) part (keep-fits t c) e ∙ mid-length t c
 
 mul-word : (t : ℕ) → lts.Need-mul-word (calls t) (given t) derive.Post
 mul-word t c = let r = place-within t (c .before .before .before .before) in omega arith
@@ -401,7 +412,7 @@ returns-4 t c =
 
 add-head : (t : ℕ) → lts.Need-add-head (calls t) (given t) derive.Post
 add-head t c =
-    let at-start = before-shared-slice-known t (before-kind t (before-else3 t c)) in
+    let at-start = start-of t c in
     let r = place-within t at-start in omega arith
 
 mul-head : (t : ℕ) → lts.Need-mul-head (calls t) (given t) derive.Post
@@ -415,30 +426,30 @@ kind-requires-2 t c κs = search needs
 
 add-atom : (t : ℕ) → lts.Need-add-atom (calls t) (given t) derive.Post
 add-atom t c =
-    let at-start = before-shared-slice-known t (before-kind t (before-else3 t (c .before .before .before .before))) in
+    let at-start = start-of t (c .before .before .before .before) in
     let r = place-within t at-start in omega arith
 
 atom-requires-2 : (t : ℕ) → lts.Need-atom-requires-2 (calls t) (given t) derive.Post
 atom-requires-2 t c κs =
     let at-else3 = c .before .before .before .before in
-    let at-start = before-shared-slice-known t (before-kind t (before-else3 t at-else3)) in
+    let at-start = start-of t at-else3 in
     let p = at-start .pre .1 in
     record { Σ = p .Σ; declared = p .ready .declared; room = omega (arith, p .room); place = omega (arith, p .short, child-within t at-else3) }
 
 add-derive-2 : (t : ℕ) → lts.Need-add-derive-2 (calls t) (given t) derive.Post
 add-derive-2 t c =
-    let at-start = before-shared-slice-known t (before-kind t (before-else3 t (c .before .before .before .before))) in
+    let at-start = start-of t (c .before .before .before .before) in
     let r = place-within t at-start in omega arith
 
 sub-derive-2 : (t : ℕ) → lts.Need-sub-derive-2 (calls t) (given t) derive.Post
 sub-derive-2 t c =
-    let at-start = before-shared-slice-known t (before-kind t (before-else3 t (c .before .before .before .before))) in
+    let at-start = start-of t (c .before .before .before .before) in
     let r = deep t at-start in omega arith
 
 derive-requires-2 : (t : ℕ) → lts.Need-derive-requires-2 (calls t) (given t) derive.Post
 derive-requires-2 t c κs =
     let at-else3 = c .before .before .before .before in
-    let s = before-shared-slice-known t (before-kind t (before-else3 t at-else3)) in
+    let s = start-of t at-else3 in
     let p = s .pre .1 in
     let M = node-at t at-else3 in
     let d = deep t s in (
@@ -460,7 +471,7 @@ returns-5 : (t : ℕ) → lts.Need-returns-5 (calls t) (given t) derive.Post
 returns-5 t c =
     let at-joined4 = c .before .before in
     let at-else3 = before-joined4 t at-joined4 in
-    let at-start = before-shared-slice-known t (before-kind t (before-else3 t at-else3)) in
+    let at-start = start-of t at-else3 in
     λ Σ Γ u R. as-node t at-else3 Σ Γ u (Gives t at-start Σ Γ (at-joined4 .if4 .ws) (at-joined4 .if4 .first)) R
     (λ o a b R. first-refusal _ (at-joined4 .if4 .first) _ _ R (first-derives t at-joined4) (c .enum-told2 .given .1))
 
@@ -469,7 +480,7 @@ enter-requires t c κs =
     let at-first = c .before .before in
     let at-joined4 = before-first t at-first in
     let at-else3 = before-joined4 t at-joined4 in
-    let s = before-shared-slice-known t (before-kind t (before-else3 t at-else3)) in
+    let s = start-of t at-else3 in
     let p = s .pre .1 in
     let M = node-at t at-else3 in
     let B = first-typed t at-first (M .ready-node) in
@@ -490,42 +501,29 @@ enum-known-entered t c = search needs
 mul-derive : (t : ℕ) → lts.Need-mul-derive (calls t) (given t) derive.Post
 mul-derive t c =
     let at-entered = c .before in
-    let at-else3 = before-enter t (before-entered t at-entered) .before .before .before .before .before in
-    let s = before-shared-slice-known t (before-kind t (before-else3 t at-else3)) in
-    let M = node-at t at-else3 in
-    omega (arith, level-kept t at-entered (M .ready-node), two-deep (M .ready-node), s .pre .1 .room, mid-length t at-entered, s .good .1 .1 .1 .0)
+    let s = start-of t (node-of t (before-entered t at-entered)) in
+    omega (arith, keep-fits t at-entered, mid-length t at-entered, s .good .1 .1 .1 .0)
 
 sub-derive-3 : (t : ℕ) → lts.Need-sub-derive-3 (calls t) (given t) derive.Post
-sub-derive-3 t c =
-    let at-entered = c .before in
-    let at-else3 = before-enter t (before-entered t at-entered) .before .before .before .before .before in
-    let s = before-shared-slice-known t (before-kind t (before-else3 t at-else3)) in
-    let M = node-at t at-else3 in
-    omega (arith, level-kept t at-entered (M .ready-node), two-deep (M .ready-node), s .pre .1 .room, mid-length t at-entered)
+sub-derive-3 t c = keep-fits t (c .before)
 
 part-derive-start : (t : ℕ) → lts.Need-part-derive-start (calls t) (given t) derive.Post
-part-derive-start t c =
-    let at-entered = c .before in
-    let at-else3 = before-enter t (before-entered t at-entered) .before .before .before .before .before in
-    let s = before-shared-slice-known t (before-kind t (before-else3 t at-else3)) in
-    let M = node-at t at-else3 in
-    omega (arith, level-kept t at-entered (M .ready-node), two-deep (M .ready-node), s .pre .1 .room, mid-length t at-entered)
+part-derive-start t c = keep-fits t (c .before)
 
 part-derive-end : (t : ℕ) → lts.Need-part-derive-end (calls t) (given t) derive.Post
 part-derive-end t c = search needs
 
 sub-derive-4 : (t : ℕ) → lts.Need-sub-derive-4 (calls t) (given t) derive.Post
 sub-derive-4 t c =
-    let at-start = before-shared-slice-known t
-    (before-kind t (before-else3 t (before-joined4 t (before-first t (before-enter t (before-entered t (c .before .before))))))) in
+    let at-start = start-of t (node-of t (before-entered t (c .before .before))) in
     let r = deep t at-start in omega arith
 
 derive-requires-3 : (t : ℕ) → lts.Need-derive-requires-3 (calls t) (given t) derive.Post
 derive-requires-3 t c κs =
     let at-entered = c .before .before in
     let at-enter = before-entered t at-entered in
-    let at-else3 = before-enter t at-enter .before .before .before .before .before in
-    let s = before-shared-slice-known t (before-kind t (before-else3 t at-else3)) in
+    let at-else3 = node-of t at-enter in
+    let s = start-of t at-else3 in
     let p = s .pre .1 in
     let M = node-at t at-else3 in
     let R = M .ready-node in
@@ -569,7 +567,7 @@ returns-6 t c =
     let at-enter = before-entered t at-entered in
     let at-first = before-enter t at-enter in
     let at-else3 = at-first .before .before .before .before .before in
-    let at-start = before-shared-slice-known t (before-kind t (before-else3 t at-else3)) in
+    let at-start = start-of t at-else3 in
     let p = at-start .pre .1 in
     λ Σ Γ u R. as-node t at-else3 Σ Γ u
     (Gives t at-start Σ Γ (whole-of (at-entered .entered .given .0 .0) (at-enter .enter .last .1 .0) (at-derive3 .derive3 .last .1 .1 .1 .0))
@@ -584,7 +582,7 @@ formed-requires t c κs =
     let at-entered = before-derive3 t at-derive3 in
     let at-first = before-enter t (before-entered t at-entered) in
     let at-else3 = at-first .before .before .before .before .before in
-    let at-start = before-shared-slice-known t (before-kind t (before-else3 t at-else3)) in
+    let at-start = start-of t at-else3 in
     let p = at-start .pre .1 in
     let M = node-at t at-else3 in
     let R = M .ready-node in
@@ -604,7 +602,7 @@ returns-7 t c =
     let at-entered = before-derive3 t at-derive3 in
     let at-first = before-enter t (before-entered t at-entered) in
     let at-else3 = at-first .before .before .before .before .before in
-    let at-start = before-shared-slice-known t (before-kind t (before-else3 t at-else3)) in
+    let at-start = start-of t at-else3 in
     let p = at-start .pre .1 in
     λ Σ Γ u R. as-node t at-else3 Σ Γ u (Gives t at-start Σ Γ (c .before .before .formed .last .1 .0) (c .before .before .formed .result)) R (λ o a b R.
     node-derived R _ _ _ _ _ _ (first-typed t at-first R) (test-passed t at-entered R) (p .below) (mid-length t at-entered) (p .room) _
@@ -628,7 +626,7 @@ returns-8 t c =
     let at-enter = c .before .before .before .before .before in
     let at-first = before-enter t at-enter in
     let at-else3 = at-first .before .before .before .before .before in
-    let at-start = before-shared-slice-known t (before-kind t (before-else3 t at-else3)) in
+    let at-start = start-of t at-else3 in
     λ Σ Γ u R. as-node t at-else3 Σ Γ u
     (Gives t at-start Σ Γ (at-enter .enter .last .1 .0) (Refused (c .before .entered2 .given .0 .0) (at-start .args .at))) R
     (λ o a b R. let B = first-typed t at-first R in
