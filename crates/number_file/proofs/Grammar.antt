@@ -16,7 +16,7 @@ use Rattle.logic.proofs.Results.{both-true, not-ok}
 use Rattle.decimal.specs.Decimal.{zero-digit, digits, decimal, number, number-bytes, feed}
 use Rattle.decimal.proofs.Digits.{power, digits-one, digits-more, digits-place-more, number-length}
 use Rattle.logic.specs.Refusals.{out-of-form}
-use Rattle.number_file.specs.NumberFile.{largest, is-digit, digit, ended, numbers, starts-with, file, fields, Small, last-end, IsFile}
+use Rattle.number_file.specs.NumberFile.{largest, is-digit, digit, bytes-ended, numbers, starts-with, file, fields, Small, last-end, IsFile}
 
 -- ---- digits
 
@@ -54,7 +54,7 @@ record Sound (this other : ℕ) (f : Option ℕ) (bs ns : List ℕ) : Type 0 whe
 ok-same : {x y : List ℕ} → ok x ≡ ok y → x ≡ y
 ok-same p = cc
 
-sound-end : (this other : ℕ) (f : Option ℕ) (ns : List ℕ) → ended other f ≡ ok ns → Sound this other f [] ns
+sound-end : (this other : ℕ) (f : Option ℕ) (ns : List ℕ) → bytes-ended other f ≡ ok ns → Sound this other f [] ns
 unfolding fields Small last-end
 sound-end this other none ns e = go (eqb other feed) refl e
   where

@@ -20,7 +20,7 @@ use Rattle.number_file.specs.declared.Digit.{Digit}
 use Rattle.number_file.specs.declared.Digit.the-variants.{More, Wrong}
 use Rattle.number_file.specs.declared.Numbers.{Numbers}
 use Rattle.number_file.specs.declared.Numbers.the-variants.{Whole, Broken}
-use Rattle.number_file.specs.NumberFile.{largest, digit, ended, numbers, starts-with, file, so-far, digit-answer, ReadAs}
+use Rattle.number_file.specs.NumberFile.{largest, digit, bytes-ended, numbers, starts-with, file, so-far, digit-answer, ReadAs}
 
 -- ---- a digit more
 
@@ -75,8 +75,8 @@ behind-one xs n (refused m p) = refl
 
 -- ---- the answer
 
-pub broken : (o : Result (List ℕ)) (old out : List ℕ) → o ≡ refused out-of-form 0 → ReadAs o old out Broken
-broken o old out e = record { answer = sym (ap (λ (x : Result (List ℕ)). x >>= λ ns. ok (length ns)) e); words = λ ns f. absurd (not-ok (sym e ∙ f)) }
+pub broken-file : (o : Result (List ℕ)) (old out : List ℕ) → o ≡ refused out-of-form 0 → ReadAs o old out Broken
+broken-file o old out e = record { answer = sym (ap (λ (x : Result (List ℕ)). x >>= λ ns. ok (length ns)) e); words = λ ns f. absurd (not-ok (sym e ∙ f)) }
 
 whole : (o : Result (List ℕ)) (old out ns : List ℕ) (count : ℕ) → o ≡ ok ns → length ns ≡ count → out ≡ written-at old 0 ns → ReadAs o old out (Whole count)
 whole o old out ns count e l w = record {
@@ -102,7 +102,7 @@ byte : (bs : List ℕ) (this other i : ℕ) (f : Option ℕ) → i < length bs �
 unfolding numbers
 byte bs this other i f h = ap (numbers this other f) (drop-one bs i h)
 
-at-end : (bs : List ℕ) (this other i : ℕ) (f : Option ℕ) → length bs ≤ i → numbers this other f (drop i bs) ≡ ended other f
+at-end : (bs : List ℕ) (this other i : ℕ) (f : Option ℕ) → length bs ≤ i → numbers this other f (drop i bs) ≡ bytes-ended other f
 unfolding numbers
 at-end bs this other i f h = ap (numbers this other f) (drop-of-length-le bs {i = i} h)
 
@@ -114,7 +114,7 @@ module _ {bs old out : List ℕ} {first this other : ℕ} {begun : Bool} {value 
   left = numbers this other (so-far begun value) (drop i bs)
 
   refuses : left ≡ refused out-of-form 0 → ReadAs all old out Broken
-  refuses e = broken all old out (r .same ∙ ap (behind (r .numbers-so-far)) e)
+  refuses e = broken-file all old out (r .same ∙ ap (behind (r .numbers-so-far)) e)
 
   module _ (h : i < length bs) where
     abbrev last : Option ℕ → Result (List ℕ)
@@ -168,11 +168,11 @@ module _ {bs old out : List ℕ} {first this other : ℕ} {begun : Bool} {value 
       }
 
   module _ (h : length bs ≤ i) where
-    at-last : left ≡ ended other (so-far begun value)
+    at-last : left ≡ bytes-ended other (so-far begun value)
     at-last = at-end bs this other i (so-far begun value) h
 
     pub number-open : begun ≡ true → ReadAs all old out Broken
-    number-open q = refuses (at-last ∙ ap (λ (b : Bool). ended other (so-far b value)) q)
+    number-open q = refuses (at-last ∙ ap (λ (b : Bool). bytes-ended other (so-far b value)) q)
 
     module _ (q : begun ≡ false) where
       by-end : Bool → Result (List ℕ)
@@ -180,7 +180,7 @@ module _ {bs old out : List ℕ} {first this other : ℕ} {begun : Bool} {value 
 
       closed : left ≡ by-end (eqb other feed)
       unfolding by-end
-      closed = at-last ∙ ap (λ (b : Bool). ended other (so-far b value)) q
+      closed = at-last ∙ ap (λ (b : Bool). bytes-ended other (so-far b value)) q
 
       pub line-open : (other ≡ feed → ⊥) → ReadAs all old out Broken
       unfolding by-end
@@ -233,7 +233,7 @@ module _ (heading bs old out : List ℕ) (first : ℕ) where
 
   pub not-headed : starts-with heading bs ≡ false → ReadAs (file heading first bs) old out Broken
   unfolding file
-  not-headed e = broken (file heading first bs) old out (ap by-start e)
+  not-headed e = broken-file (file heading first bs) old out (ap by-start e)
 
   -- what is behind the first line
   rest : take (length bs - length heading) (drop (length heading) bs) ≡ drop (length heading) bs

@@ -32,13 +32,13 @@ digit (some n) b =
     require (is-digit b && leb 1 n && leb (10 * n + (b - zero-digit)) largest) out-of-form 0 >> ok (10 * n + (b - zero-digit))
 
 -- the end of the bytes: "each line ends in a line feed", so no number is left open, and the one before ended in `other`
-abbrev pub ended : (other : ℕ) → Option ℕ → Result (List ℕ)
-ended other none = require (eqb other feed) out-of-form 0 >> ok []
-ended other (some n) = refused out-of-form 0
+abbrev pub bytes-ended : (other : ℕ) → Option ℕ → Result (List ℕ)
+bytes-ended other none = require (eqb other feed) out-of-form 0 >> ok []
+bytes-ended other (some n) = refused out-of-form 0
 
 -- the numbers of these bytes: the one at hand ends in the byte `this`, the next one in `other`, and so on by turns
 unfoldable pub numbers : (this other : ℕ) → Option ℕ → List ℕ → Result (List ℕ)
-numbers this other f [] = ended other f
+numbers this other f [] = bytes-ended other f
 numbers this other f (b ∷ bs) =
     cond (eqb b this)
     (known out-of-form 0 f >>= λ n. (numbers other this none bs >>= λ ns. ok (n ∷ ns)))

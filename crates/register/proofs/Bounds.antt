@@ -43,39 +43,39 @@ Number m = (1 ≤ m) × (m ≤ last-refusal) × (m ≢ out-of-form)
 -- where a result is a refusal, it has such a number and a place up to the bound
 pub data Within {X : Type 0} (bound : ℕ) : Result X → Type 0 where
   passed : {x : X} → Within bound (ok x)
-  inside : {m p : ℕ} → Number m → p ≤ bound → Within bound (refused m p)
+  place-within : {m p : ℕ} → Number m → p ≤ bound → Within bound (refused m p)
 
 pub bounded-refusal : {X : Type 0} {bound m p : ℕ} {r : Result X} → Within bound r → r ≡ refused m p → Number m × (p ≤ bound)
 bounded-refusal passed e = absurd (clash (cc))
-bounded-refusal {m} {p} (inside {m = m′} {p = p′} h k) e = let n : m′ ≡ m = cc in let l : p′ ≡ p = cc in (omega arith, omega arith)
+bounded-refusal {m} {p} (place-within {m = m′} {p = p′} h k) e = let n : m′ ≡ m = cc in let l : p′ ≡ p = cc in (omega arith, omega arith)
 
 -- ---- results put together
 
 bind-within : {X Y : Type 0} {bound : ℕ} (r : Result X) (k : X → Result Y) → Within bound r → ((x : X) → r ≡ ok x → Within bound (k x)) → Within bound (r >>= k)
 bind-within (ok x) k h f = f x refl
-bind-within (refused m p) k (inside a b) f = inside a b
+bind-within (refused m p) k (place-within a b) f = place-within a b
 
 then-within : {X Y : Type 0} {bound : ℕ} (r : Result X) (s : Result Y) → Within bound r → Within bound s → Within bound (r >> s)
 then-within (ok x) s h f = f
-then-within (refused m p) s (inside a b) f = inside a b
+then-within (refused m p) s (place-within a b) f = place-within a b
 
 require-within : {bound : ℕ} (b : Bool) (m p : ℕ) → Number m → p ≤ bound → Within bound (require b m p)
 require-within true m p h k = passed
-require-within false m p h k = inside h k
+require-within false m p h k = place-within h k
 
 -- a test, and what comes behind it where it passes
 tested-within : {Y : Type 0} {bound : ℕ} (b : Bool) (m p : ℕ) (s : Result Y) → Number m → p ≤ bound → (b ≡ true → Within bound s) →
     Within bound (require b m p >> s)
 tested-within true m p s h k f = f refl
-tested-within false m p s h k f = inside h k
+tested-within false m p s h k f = place-within h k
 
 known-within : {X : Type 0} {bound : ℕ} (m p : ℕ) (o : Option X) → Number m → p ≤ bound → Within bound (known m p o)
-known-within m p none h k = inside h k
+known-within m p none h k = place-within h k
 known-within m p (some x) h k = passed
 
 nowhere-within : {bound : ℕ} (m : ℕ) (o : Option ℕ) → Number m → ((p : ℕ) → o ≡ some p → p ≤ bound) → Within bound (nowhere m o)
 nowhere-within m none h f = passed
-nowhere-within m (some p) h f = inside h (f p refl)
+nowhere-within m (some p) h f = place-within h (f p refl)
 
 pick-within : {X : Type 0} {bound : ℕ} (b : Bool) (r s : Result X) → Within bound r → Within bound s → Within bound (cond b r s)
 pick-within true r s h k = h
@@ -83,15 +83,15 @@ pick-within false r s h k = k
 
 at-rule-within : {X : Type 0} {bound own : ℕ} (at : ℕ) (r : Result X) → at ≤ bound → Within own r → Within bound (at-rule at r)
 at-rule-within at (ok x) h k = passed
-at-rule-within at (refused m p) h (inside a b) = inside a h
+at-rule-within at (refused m p) h (place-within a b) = place-within a h
 
 at-constant-within : {X : Type 0} {bound : ℕ} (at : ℕ) (r : Result X) → at ≤ bound → Within bound (at-constant at r)
 at-constant-within at (ok x) h = passed
-at-constant-within at (refused m p) h = inside {m = bad-signature} (omega arith) h
+at-constant-within at (refused m p) h = place-within {m = bad-signature} (omega arith) h
 
 wider : {X : Type 0} {b c : ℕ} {r : Result X} → b ≤ c → Within b r → Within c r
 wider l passed = passed
-wider l (inside {p} a b) = inside {p = p} a (omega arith)
+wider l (place-within {p} a b) = place-within {p = p} a (omega arith)
 
 -- ---- tests 6 to 12
 
@@ -104,8 +104,8 @@ atom-within Σ at propA h = passed
 atom-within Σ at typeA h = passed
 atom-within Σ at stringA h = passed
 atom-within Σ at prinA h = passed
-atom-within Σ at kindPA h = inside {m = malformed} (omega arith) h
-atom-within Σ at kindTA h = inside {m = malformed} (omega arith) h
+atom-within Σ at kindPA h = place-within {m = malformed} (omega arith) h
+atom-within Σ at kindTA h = place-within {m = malformed} (omega arith) h
 atom-within Σ at (constA n) h = known-within _ at (getElem? Σ n) (omega arith) h
 atom-within Σ at (textA n) h = passed
 atom-within Σ at (nameA n) h = passed
@@ -165,7 +165,7 @@ read-within ws = go (read-whole ws) refl
   where
     go : (r : Result Term) → read-whole ws ≡ r → Within (length ws) r
     go (ok t) e = passed
-    go (refused m p) e = let (n, M) = read-refused ws m p .0 e in inside {m = m} (omega (arith, n)) (M .within)
+    go (refused m p) e = let (n, M) = read-refused ws m p .0 e in place-within {m = m} (omega (arith, n)) (M .within)
 
 -- where a term stands in another is within its words
 stands-within : {s t : Term} {i d : ℕ} → SubtermAt s i d t → i ≤ size t
@@ -219,7 +219,7 @@ signs-within h t = nowhere-within _ (first-unheld (λ a q. h a (encode q)) 0 t) 
 -- ---- test 4: at a constant's length word
 constants-within : {bound : ℕ} (k at : ℕ) (Σ : List Term) (ws : List ℕ) → at + length ws ≤ bound → Within bound (constants k at Σ ws)
 unfolding constants
-constants-within zero at Σ ws h = inside {m = bad-signature} {p = at} (omega arith) (omega arith)
+constants-within zero at Σ ws h = place-within {m = bad-signature} {p = at} (omega arith) (omega arith)
 constants-within (suc k) at Σ [] h = passed
 constants-within (suc k) at Σ (n ∷ ws) h =
     tested-within (ltb (length Σ) most-constants && leb 1 n && leb n most-constant-words && leb n (length ws)) _ at _ (omega arith) (omega arith) λ t.
@@ -285,14 +285,14 @@ rule-numbers-within at st n h =
 -- a refusal of a rule is at its principal word
 opening-within : {bound : ℕ} (k : ℕ) (Σ : List Term) (at : ℕ) (rs : List Record) (ws : List ℕ) → at + length ws ≤ bound → Within bound (opening k Σ at rs ws)
 unfolding opening
-opening-within zero Σ at rs ws h = inside {m = malformed} {p = at} (omega arith) (omega arith)
+opening-within zero Σ at rs ws h = place-within {m = malformed} {p = at} (omega arith) (omega arith)
 opening-within {bound} (suc k) Σ at rs ws h = go (next-rule ws) refl (λ at rs ws. opening-within k Σ at rs ws)
   where
     go : (x : Next) → next-rule ws ≡ x → ((at : ℕ) (rs : List Record) (ws : List ℕ) → at + length ws ≤ bound →
         Within bound (opening k Σ at rs ws)) → Within bound (rule-own (opening k Σ) at Σ rs x)
     go ended e ih = passed
     go (cut st n) e ih = then-within (rule-numbers at st n) _ (rule-numbers-within at st n (omega arith))
-        (inside {m = malformed} {p = at} (omega arith) (omega arith))
+        (place-within {m = malformed} {p = at} (omega arith) (omega arith))
     go (whole st rest) e ih =
         then-within (rule-numbers at st (length (st .words))) _ (rule-numbers-within at st (length (st .words)) (omega arith)) (
         bind-within (at-rule at (check-statement Σ (st .principal) (st .words))) _

@@ -155,8 +155,8 @@ module _ (l : Lent) (reg table : List ℕ) (k : Ask) (r : Ready) (P : PreparedAs
 -- ---- what a request leaves
 
 module _ (l : Lent) (reg : List ℕ) (k : Ask) (r : Verdict) (e : verdict-answer r ≡ request-call l reg k) where
-  pub request-refused : (m place : ℕ) → r ≡ VerdictRefused m place → RequestedAs l reg k reg r
-  request-refused m place q = record { answer = e; register = ap (λ (o : Result (Unit {0})). after-request o reg k) (sym (ap verdict-answer q) ∙ e) }
+  pub request-kept : (m place : ℕ) → r ≡ VerdictRefused m place → RequestedAs l reg k reg r
+  request-kept m place q = record { answer = e; register = ap (λ (o : Result (Unit {0})). after-request o reg k) (sym (ap verdict-answer q) ∙ e) }
 
   module _ (q : r ≡ Passed) where
     granted : request-call l reg k ≡ ok tt

@@ -123,8 +123,8 @@ module _ (l : Lent) (reg table : List ℕ) (st : Statement) (r : Ready) (P : Pre
 -- ---- what a say leaves
 
 module _ (l : Lent) (reg : List ℕ) (st : Statement) (r : Said) (e : said-answer r ≡ say-call l reg st) where
-  pub say-refused : (m place : ℕ) → r ≡ SaidRefused m place → SaysAs l reg st reg (SaidRefused m place)
-  say-refused m place q = let h = sym (ap said-answer q) ∙ e in record { answer = h; register = ap (λ (o : Result Bool). after-say o reg st) h }
+  pub say-kept : (m place : ℕ) → r ≡ SaidRefused m place → SaysAs l reg st reg (SaidRefused m place)
+  say-kept m place q = let h = sym (ap said-answer q) ∙ e in record { answer = h; register = ap (λ (o : Result Bool). after-say o reg st) h }
 
   pub say-held : r ≡ Held → SaysAs l reg st reg Held
   say-held q = let h = sym (ap said-answer q) ∙ e in record { answer = h; register = ap (λ (o : Result Bool). after-say o reg st) h }

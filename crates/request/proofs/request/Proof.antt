@@ -2,7 +2,7 @@
 use Rattle.register.specs.Records.{Ask, ask-of}
 use Rattle.register.specs.Calls.{Lent}
 use Rattle.shared_tests.specs.Shared.{lent-of}
-use Rattle.request.proofs.Grants.{request-refused, grantable-now, grant-room, request-granted}
+use Rattle.request.proofs.Grants.{request-kept, grantable-now, grant-room, request-granted}
 use native.Mathlib.Omega.{arith}
 use borrow.Author.Needs.{needs}
 use Rattle.request.proofs.request.Statement.{statement}
@@ -47,7 +47,7 @@ returns c =
     let at-grantable = c .before .before .before .before in
     let at-start = before-slice-known (before-grantable at-grantable) in
     let a = at-start .args in
-    request-refused (lent-here at-start) (a .register .now) (asked at-start)
+    request-kept (lent-here at-start) (a .register .now) (asked at-start)
     (at-grantable .grantable .result) (at-grantable .grantable .ensures) _ _ (c .enum-told2 .given .1)
 
 add-grant-requires : tie.Need-add-grant-requires

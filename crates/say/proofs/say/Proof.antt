@@ -2,7 +2,7 @@
 use Rattle.register.specs.Records.{Statement, statement-of}
 use Rattle.register.specs.Calls.{Lent}
 use Rattle.shared_tests.specs.Shared.{lent-of}
-use Rattle.say.proofs.Statements.{say-room, say-added, say-held, say-refused}
+use Rattle.say.proofs.Statements.{say-room, say-added, say-held, say-kept}
 use borrow.Author.Needs.{needs}
 use Rattle.say.proofs.say.Statement.{statement}
 use Rattle.say.proofs.say.Tie as tie
@@ -85,7 +85,7 @@ returns-3 c =
     let at-sayable = c .before .before .before .before .before in
     let at-start = before-slice-known (before-sayable at-sayable) in
     let a = at-start .args in
-    say-refused (lent-here at-start) (a .register .now) (said at-start) (at-sayable .sayable .result)
+    say-kept (lent-here at-start) (a .register .now) (said at-start) (at-sayable .sayable .result)
     (at-sayable .sayable .ensures) _ _ (c .before .tested .given .1)
 
 pub say-spec : {M : Type 1} → statement M
