@@ -26,6 +26,7 @@ use Rattle.rules.proofs.Fronts.{typed-by, refused-by}
 use Rattle.rules.specs.declared.derivation.Derivation.{Derivation}
 use Rattle.rules.specs.declared.derivation.Derivation.the-variants.{Typed, Refused}
 use Rattle.typing.specs.Check.{ConstantsOf, typed-term, Judged}
+use Rattle.typing.proofs.Checks.{judged-refused}
 use Rattle.records.specs.Answers.{unheld-answer}
 use Rattle.records.specs.declared.search.Unheld.{Unheld}
 use Rattle.records.specs.declared.search.Unheld.the-variants.{Nowhere, At}
@@ -36,9 +37,6 @@ use Rattle.shared_tests.specs.Shared.{ready-answer, prepared, constants-found, 
 use Rattle.shared_tests.proofs.OwnTests.{not-prepared, PassedSo, typed-refused, TypeFound, type-found, type-refused, TypedSo, typed-so, words-within}
 use Rattle.shared_tests.specs.declared.Ready.{Ready}
 use Rattle.shared_tests.specs.declared.Ready.the-variants.{Constants, Refused as ReadyRefused}
-
-judged-refused : (o : Result Term) (end : ℕ) (new : List ℕ) (m p : ℕ) → o ≡ refused m p → Judged o end new (Refused m p)
-judged-refused o end new m p e = subst (λ (x : Result Term). Judged x end new (Refused m p)) (sym e) (record { answer = refl; front = tt })
 
 module _ (l : Lent) (reg table term : List ℕ) (r : Ready) (P : PreparedAs l reg table r) where
   pub check-not-prepared : (new : List ℕ) (m p : ℕ) → r ≡ ReadyRefused m p → Judged (check-call l reg term) (length term) new (Refused m p)

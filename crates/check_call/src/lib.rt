@@ -1,4 +1,5 @@
 // Check: the type of a term.
+use logic::limit::MOST_CONSTANTS;
 use logic::limit::MOST_NESTING;
 use logic::limit::MOST_WORDS;
 use logic::refusal::NOT_HELD;
@@ -20,7 +21,7 @@ pub fn judge(sig: &[u32], n: u32, register: &[u32], term: &[u32], ws: &mut [u32]
     ensures { λ r. ⌜ Judged (check-call (lent-of (now (sig .entry)) n (now (ws .entry))) (now (register .entry)) (now (term .entry)))
         (length (now (term .entry))) (now (ws .exit)) r ⌝ }
 {
-    let mut table = [0u32; 256];
+    let mut table = [0u32; MOST_CONSTANTS];
     let ready = prepare(sig, n, register, &mut table, ws);
     match ready {
         Ready::Refused { number, place } => Derivation::Refused { number, place },

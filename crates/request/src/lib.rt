@@ -1,4 +1,5 @@
 // Request: a grant and its receipt, where the proof is one of the desk's permission.
+use logic::limit::MOST_CONSTANTS;
 use logic::limit::MOST_NESTING;
 use logic::limit::MOST_WORDS;
 use logic::refusal::ANOTHER_PROPOSITION;
@@ -122,7 +123,7 @@ fn grantable(
         request-call (lent-of (now (sig .entry)) n (now (ws .entry))) (now (register .entry))
         (ask-of operation extract delivery (now (proof .entry))) ⌝ }
 {
-    let mut table = [0u32; 256];
+    let mut table = [0u32; MOST_CONSTANTS];
     let ready = prepare(sig, n, register, &mut table, ws);
     match ready {
         Ready::Refused { number, place } => Verdict::Refused { number, place },

@@ -19,7 +19,7 @@ use Rattle.rules.specs.declared.derivation.Verdict.{Verdict}
 use Rattle.rules.specs.declared.derivation.Verdict.the-variants.{Passed, Refused as VerdictRefused}
 use Rattle.rules.specs.Form.{verdict-answer}
 use Rattle.typing.specs.Check.{without-value}
-use Rattle.typing.proofs.Verdicts.{fault-told, passed-told}
+use Rattle.typing.proofs.Verdicts.{refused-told, passed-told}
 use Rattle.records.specs.Answers.{Room, unheld-answer}
 use Rattle.records.specs.declared.search.Unheld.{Unheld}
 use Rattle.records.specs.declared.search.Unheld.the-variants.{Nowhere, At}
@@ -114,7 +114,7 @@ module _ (l : Lent) (reg table : List ℕ) (st : Statement) (r : Ready) (P : Pre
             (numbered true) (ne-eqb (st .principal) 0 n)
 
         pub say-not-stated : (m place : ℕ) → d ≡ VerdictRefused m place → refused m place ≡ say-call l reg st
-        say-not-stated m place q = sym (numbers-right ∙ ap behind (fault-told (check-statement (so .Σ) (st .principal) (st .words)) d m place e q))
+        say-not-stated m place q = sym (numbers-right ∙ ap behind (refused-told (check-statement (so .Σ) (st .principal) (st .words)) d m place e q))
 
         pub say-stated : (S : StatementSo (so .Σ) st) (x : Said) → said-answer x ≡
             stated-own st (S .term) (view l (outline-of reg) (so .rs) (so .Σ)) → said-answer x ≡ say-call l reg st

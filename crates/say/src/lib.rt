@@ -1,4 +1,5 @@
 // Say: the statement of a principal, added unless it is held.
+use logic::limit::MOST_CONSTANTS;
 use logic::refusal::BAD_NUMBER;
 use logic::refusal::DESK_SAYS;
 use logic::refusal::NOT_HELD;
@@ -73,7 +74,7 @@ fn sayable(
     ensures { λ r. ⌜ said-answer r ≡
         say-call (lent-of (now (sig .entry)) n (now (ws .entry))) (now (register .entry)) (statement-of principal (now (proposition .entry))) ⌝ }
 {
-    let mut table = [0u32; 256];
+    let mut table = [0u32; MOST_CONSTANTS];
     let ready = prepare(sig, n, register, &mut table, ws);
     match ready {
         Ready::Refused { number, place } => Said::Refused { number, place },

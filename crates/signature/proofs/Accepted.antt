@@ -16,7 +16,8 @@ use Rattle.signature.specs.declared.list.Listed.{Listed}
 use Rattle.signature.specs.declared.list.Listed.the-variants.{Accepted, Refused}
 
 -- a bad constant was found
-pub list-refused : (sig table : List ℕ) (p : ℕ) (r : Listed) → SignatureRead (signature sig) sig table r → r ≡ Refused p → signature sig ≡ refused bad-signature p
+pub list-refused : (sig table : List ℕ) (p : ℕ) (r : Listed) → SignatureRead (signature sig) sig table r → r ≡ Refused p → signature sig ≡
+  refused bad-signature p
 list-refused sig table p r R q = not-mapped length (signature sig) (sym (R .answer) ∙ ap listed-answer q)
 
 -- the constants that were read

@@ -9,8 +9,8 @@ use Rattle.typing.specs.Check.{without-value}
 use Rattle.rules.specs.declared.derivation.Verdict.{Verdict}
 use Rattle.rules.specs.declared.derivation.Verdict.the-variants.{Passed, Refused}
 
-pub fault-told : {X : Type 0} (o : Result X) (r : Verdict) (m p : ℕ) → verdict-answer r ≡ without-value o → r ≡ Refused m p → o ≡ refused m p
-fault-told o r m p e f = stopped-then o _ (sym e ∙ ap verdict-answer f) (λ i. i) λ x i j. absurd (not-refused j)
+pub refused-told : {X : Type 0} (o : Result X) (r : Verdict) (m p : ℕ) → verdict-answer r ≡ without-value o → r ≡ Refused m p → o ≡ refused m p
+refused-told o r m p e f = stopped-then o _ (sym e ∙ ap verdict-answer f) (λ i. i) λ x i j. absurd (not-refused j)
 
 pub passed-told : {X : Type 0} (o : Result X) (r : Verdict) → verdict-answer r ≡ without-value o → r ≡ Passed → (x : X) × (o ≡ ok x)
 passed-told o r e f = followed o _ (sym e ∙ ap verdict-answer f) λ x i j. (x, i)

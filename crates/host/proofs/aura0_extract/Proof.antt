@@ -7,7 +7,7 @@ use native.Mathlib.Omega.{arith}
 use borrow.Author.Needs.{needs}
 use Rattle.logic.specs.Result.{Result, refused}
 use Rattle.rules.specs.declared.derivation.Verdict.the-variants.{Refused}
-use Rattle.typing.proofs.Verdicts.{fault-told}
+use Rattle.typing.proofs.Verdicts.{refused-told}
 use Rattle.register.specs.Records.{Ask, ask-of}
 use Rattle.register.specs.Calls.{Lent}
 use Rattle.shared_tests.specs.Shared.{lent-of}
@@ -49,7 +49,7 @@ called s =
 
 -- it was refused
 refused-so : (c : tie.After-slice-known6) (m p : ℕ) → extracted c .extract .result ≡ Refused m p → called (start (extracted c)) ≡ refused m p
-refused-so c m p e = let x = extracted c .extract in fault-told (called (start (extracted c))) (x .result) m p (x .ensures .answer) e
+refused-so c m p e = let x = extracted c .extract in refused-told (called (start (extracted c))) (x .result) m p (x .ensures .answer) e
 
 -- ---- the needs
 

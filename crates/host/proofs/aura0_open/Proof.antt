@@ -5,7 +5,7 @@ use Rattle.logic.specs.Result.{Result}
 use Rattle.register.specs.Records.{Record}
 use Rattle.register.specs.Calls.{Lent, open-call}
 use Rattle.shared_tests.specs.Shared.{lent-of}
-use Rattle.typing.proofs.Verdicts.{fault-told}
+use Rattle.typing.proofs.Verdicts.{refused-told}
 use Rattle.host.proofs.Codes.{opened-code, refused-code, open-fits}
 use native.Mathlib.Omega.{arith}
 use borrow.Author.Needs.{needs}
@@ -45,7 +45,7 @@ code-requires c κs =
     let s = before-slice-known (before-open at-open) in
     let v = at-open .«open» in
     open-fits (lent-here s) (s .args .register .now) (s .args .rules .now) _ _ (omega (arith, s .good))
-    (fault-told (called s) (v .result) _ _ (v .ensures .answer) (c .before .verdict .given .1))
+    (refused-told (called s) (v .result) _ _ (v .ensures .answer) (c .before .verdict .given .1))
 
 same-length : tie.Need-same-length
 same-length c = search needs
@@ -73,7 +73,7 @@ returns-2 c =
     let v = at-open .«open» in
     record {
       answer = refused-code (called s) _ _ (c .code .result)
-          (fault-told (called s) (v .result) _ _ (v .ensures .answer) (c .before .before .verdict .given .1)) (c .code .ensures);
+          (refused-told (called s) (v .result) _ _ (v .ensures .answer) (c .before .before .verdict .given .1)) (c .code .ensures);
       register = v .ensures .register;
     }
 
