@@ -77,7 +77,7 @@ module _ (l : Lent) (reg : List ℕ) (k : Ask) (hs t old : List ℕ) where
     pub extract-not-granted : (m place : ℕ) → r ≡ Refused m place → ExtractedAs l reg k hs t new old old r
     extract-not-granted m place f =
         told (refused m place) new old r (outcome (Refused m place) f) record
-          { answer = ap verdict-answer f; register = kept (Refused m place) f; output = refl }
+        { answer = ap verdict-answer f; register = kept (Refused m place) f; output = refl }
 
     pub extract-granted : (out : List ℕ) → r ≡ Passed → out ≡ written-at old 0 (joined hs t) → ExtractedAs l reg k hs t new old out Passed
     extract-granted out f w = told (ok (joined hs t)) new out Passed (outcome Passed f) record { answer = refl; register = kept Passed f; output = w }

@@ -17,7 +17,7 @@ use Rattle.signature.specs.declared.list.Listed.the-variants.{Accepted, 
 
 -- a bad constant was found
 pub list-refused : (sig table : List ℕ) (p : ℕ) (r : Listed) → SignatureRead (signature sig) sig table r → r ≡ Refused p → signature sig ≡
-  refused bad-signature p
+    refused bad-signature p
 list-refused sig table p r R q = not-mapped length (signature sig) (sym (R .answer) ∙ ap listed-answer q)
 
 -- the constants that were read
