@@ -31,7 +31,7 @@ ghost use lib.ListN.{length};
 ghost use Rattle.logic.specs.Limits.{payloads, most-operations};
 ghost use Rattle.logic.specs.Result.{ok};
 ghost use Rattle.logic.specs.Term.{Term, size};
-ghost use Rattle.logic.specs.Infer.{same as sameTerm};
+ghost use Rattle.logic.specs.Infer.{same as same-term};
 ghost use Rattle.words.specs.Place.{Is};
 ghost use Rattle.words.specs.Typed.{TypeAt};
 ghost use Rattle.rules.specs.Form.{verdict-answer};
@@ -57,7 +57,7 @@ fn numbers(n: u32, operation: u32, extract: u32, delivery: u32) -> bool
 fn permits(ws: &[u32], n: usize, operation: u32, extract: u32) -> bool
     requires { ⌜ (n ≤ length (now ws)) × (operation < most-operations) × (extract < payloads) ⌝ }
     ensures { λ r. ⌜ ((A : Term) → (delivery : ℕ) → (proof : List ℕ) → TypeAt (now (ws .entry)) 0 A → n ≡ size A
-        → r ≡ sameTerm A (permission (ask-of operation extract delivery proof))) ⌝ }
+        → r ≡ same-term A (permission (ask-of operation extract delivery proof))) ⌝ }
 {
     let wanted = [
         SAYS,
