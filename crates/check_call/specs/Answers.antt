@@ -1,4 +1,4 @@
--- The numbers, places and words of the calls' answers.
+-- What check hands back: the type's words, a number and a place.
 use Prim.Native.Nat.{ℕ}
 use mathlib.Core.Path.{_≡_}
 use mathlib.Core.List.{List, []}

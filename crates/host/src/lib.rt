@@ -1,6 +1,6 @@
 // "A host program in C calls check and request": extern "C" entry points on numbers and lent slices, thin over the
-// proved check and request, and over open, say and read alike. include/aura0.h declares them. An answer is the
-// refusal's number times 4294967296 plus the place, 0 for success.
+// proved check and request, and over open, say, read and extract alike. include/aura0.h declares them. An answer is
+// the refusal's number times 4294967296 plus the place, 0 for success.
 use check_call::check;
 use check_call::judge;
 use open::open;

@@ -1,3 +1,3 @@
-// The rule list of an opening: searched, counted, and written as records.
+// The rule list of an opening: counted, and written as records.
 pub mod opening;
 pub mod rule_records;
