@@ -12,7 +12,7 @@
 #include <unistd.h>
 #include "../include/aura0.h"
 
-// the requests of document 02 in force: 1 to LEVEL
+// the level in force: requests 1 to LEVEL of document 02 (request 4 changed no answer, so it has no level)
 enum { LEVEL = 3, MOST = 1 << 21, GUARD = 16, PATTERN = 0x5a5a5a5a };
 
 // a lent list of words, with a guard behind it, and what it held before the call
