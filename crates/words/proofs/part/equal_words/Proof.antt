@@ -8,6 +8,7 @@ use lib.Seq.{ext-getD}
 use lib.ListN.{length, getD}
 use borrow.Author.Count.{below-more}
 use borrow.Author.Needs.{needs}
+use Rattle.logic.proofs.Basics.{clash}
 use Rattle.words.proofs.part.equal_words.Statement.{statement}
 use Rattle.words.proofs.part.equal_words.Tie as tie
 
@@ -33,11 +34,9 @@ shared-slice-read-if1-2 : tie.Need-shared-slice-read-if1-2 Inv-loop μ-loop
 shared-slice-read-if1-2 c = search needs
 
 returns : tie.Need-returns Inv-loop μ-loop
-returns c = (
-  λ e. (let z : _≡_ {A = ℕ} 0 1 = cc in absurd (omega arith)),
-  λ e. absurd
-      (c .if1 .taken (ap (λ (l : List ℕ). getD l (c .before .before .before .before .loop .i) 0) e)),
-)
+returns c =
+    let i = c .before .before .before .before .loop .i in
+    (λ e. absurd (clash (cc)), λ e. absurd (c .if1 .taken (ap (λ (l : List ℕ). getD l i 0) e)))
 
 add-i : tie.Need-add-i Inv-loop μ-loop
 add-i c = search needs
