@@ -12,28 +12,28 @@ use lib.ListN.{length, take, drop, getElem?, length-drop, length-append}
 use borrow.Author.Tests.{leb-true}
 use Rattle.logic.specs.Limits.{most-type-words, most-words, most-nesting, most-statement-words, most-statement-nesting}
 use Rattle.logic.specs.Limits.{least-workspace, most-register, most-constants, most-constant-words}
-use Rattle.logic.specs.Refusals.{bad-signature, malformed, out-of-form, last-refusal}
+use Rattle.logic.specs.Refusals.{bad-signature, malformed, out-of-form, not-held, held-outside, last-refusal}
 use Rattle.logic.specs.Result.{Result, ok, refused, _>>=_, _>>_, require, known, nowhere}
 use Rattle.logic.specs.Term.{propA, typeA, stringA, prinA, kindPA, kindTA, constA, textA, nameA, saysO, piO, lamO, appO}
 use Rattle.logic.specs.Term.{retO, bindO, Atom, Term, atom, var, sign, node, P, N, Name, Says, Pi, encode, size}
 use Rattle.logic.specs.Move.{raise, lower, fill, occurs}
-use Rattle.logic.specs.Reading.{read-whole, SubtermAt, too-deep, first-unheld}
+use Rattle.logic.specs.Reading.{read-whole, SubtermAt, too-deep, Miss, first-miss}
 use Rattle.logic.specs.Infer.{same, measured, domain, body, proposition, parts, infer-atom, infer}
 use Rattle.logic.specs.Check.{term-of, Checked, check-term, check-statement}
 use Rattle.logic.specs.SignatureList.{at-constant, constant, constants, signature, operations-test}
-use Rattle.logic.proofs.Basics.{clash}
+use Rattle.logic.proofs.Basics.{clash, some-inj}
 use Rattle.logic.proofs.Results.{ok-inj, bound, tested, searched, followed, both-true}
 use Rattle.logic.proofs.Words.{encode-size}
 use Rattle.logic.proofs.Reading.{read-right}
 use Rattle.logic.proofs.Malformed.{read-refused}
-use Rattle.logic.proofs.Searches.{too-deep-first, first-unheld-first}
+use Rattle.logic.proofs.Searches.{too-deep-first, first-miss-first}
 use Rattle.logic.proofs.Places.{stands-words}
-use Rattle.register.specs.Records.{Record, Statement, Ask, Next, ended, cut, whole, header, rule-head, used}
-use Rattle.register.specs.Records.{count, records, recorded, register-records, held, words-of, next-rule}
-use Rattle.register.specs.Calls.{Lent, Outline, View, outline-of, fresh-outline, payload, Holding, length-test}
-use Rattle.register.specs.Calls.{shared, signs-held, fits, check-own, check-call, say-own, say-call, permission}
+use Rattle.register.specs.Records.{Record, Statement, Ask, Content, Holds, covered, lapsed, unheld, Next, ended, cut, whole, header, rule-head}
+use Rattle.register.specs.Records.{no-kind, used, count, latest, records, recorded, register-content, statements, holding, words-of, next-rule}
+use Rattle.register.specs.Calls.{Lent, Outline, View, outline-of, fresh-outline, Holding, length-test, shared, sign-refusal, unmissed, signs-held}
+use Rattle.register.specs.Calls.{fits, check-own, check-call, statement-test, say-own, say-call, permission}
 use Rattle.register.specs.Calls.{say-entry, entry, ask-test, request-own, request-call}
-use Rattle.register.specs.Calls.{at-rule, with-rule, rule-numbers, rule-own, opening, open-own, open-call, read-call}
+use Rattle.register.specs.Calls.{at-rule, with-rule, rule-numbers, rule-own, opening, open-own, new-content, open-call, read-call}
 use Rattle.register.proofs.Opening.{next-rule-rest}
 
 -- a refusal number of document 01 or 02, of a call on the register: 21 is the extract desk's alone
@@ -77,9 +77,9 @@ nowhere-within : {bound : ℕ} (m : ℕ) (o : Option ℕ) → Number m → ((p :
 nowhere-within m none h f = passed
 nowhere-within m (some p) h f = place-within h (f p refl)
 
-pick-within : {X : Type 0} {bound : ℕ} (b : Bool) (r s : Result X) → Within bound r → Within bound s → Within bound (cond b r s)
-pick-within true r s h k = h
-pick-within false r s h k = k
+cond-within : {X : Type 0} {bound : ℕ} (b : Bool) (r s : Result X) → Within bound r → Within bound s → Within bound (cond b r s)
+cond-within true r s h k = h
+cond-within false r s h k = k
 
 at-rule-within : {X : Type 0} {bound own : ℕ} (at : ℕ) (r : Result X) → at ≤ bound → Within own r → Within bound (at-rule at r)
 at-rule-within at (ok x) h k = passed
@@ -211,10 +211,23 @@ statement-size Σ a ws q e =
     followed (measured 0 (Says (Name a) t)) (ok t) e₄ λ _ _ e₅.
     ap size (sym (ok-inj e₅)) ∙ term-size most-statement-words most-statement-nesting ws t e₁
 
--- ---- test 14: at a Sign of the term
+-- ---- tests 14 and 22: at a Sign of the term
+sign-number : (x : Holds) {m : ℕ} → sign-refusal x ≡ some m → Number m
+sign-number covered e = absurd (clash (cc))
+sign-number lapsed {m} e = let h : held-outside ≡ m = some-inj e in omega arith
+sign-number unheld {m} e = let h : not-held ≡ m = some-inj e in omega arith
+
 signs-within : (h : Holding) (t : Term) → Within (size t) (signs-held h t)
-signs-within h t = nowhere-within _ (first-unheld (λ a q. h a (encode q)) 0 t) (omega arith) λ p e.
-    let F = first-unheld-first (λ a q. h a (encode q)) t 0 p .0 e in omega (arith, F .place, stands-within (F .embedded))
+signs-within h t = go (first-miss refuses 0 t) refl
+  where
+    refuses : ℕ → Term → Option ℕ
+    refuses a q = sign-refusal (h a (encode q))
+
+    go : (o : Option Miss) → first-miss refuses 0 t ≡ o → Within (size t) (unmissed o)
+    go none e = passed
+    go (some m) e =
+        let F = first-miss-first refuses t 0 m .0 e in
+        place-within {p = m .place} (sign-number (h (F .n) (encode (F .q))) (F .refused)) (omega (arith, F .at-index, stands-within (F .embedded)))
 
 -- ---- test 4: at a constant's length word
 constants-within : {bound : ℕ} (k at : ℕ) (Σ : List Term) (ws : List ℕ) → at + length ws ≤ bound → Within bound (constants k at Σ ws)
@@ -236,20 +249,21 @@ signature-within sig = constants-within (suc (length sig)) 0 [] sig (omega arith
 length-within : (len : ℕ) → Within 0 (length-test len)
 length-within len = require-within (leb header len && leb len most-register) _ 0 (omega arith) (omega arith)
 
-records-within : (reg : List ℕ) → Within 0 (register-records reg)
-records-within reg =
+content-within : (reg : List ℕ) → Within 0 (register-content reg)
+content-within reg =
     tested-within (leb header (used reg) && leb (used reg) (length reg)) _ 0 _ (omega arith) (omega arith) λ _.
-    bind-within (known _ 0 (records (used reg) (recorded reg))) _ (known-within _ 0 (records (used reg) (recorded reg)) (omega arith) (omega arith)) λ rs _.
-    then-within (require (eqb (length rs) (count reg)) _ 0) (ok rs) (require-within (eqb (length rs) (count reg)) _ 0 (omega arith) (omega arith)) passed
+    bind-within (known _ 0 (records (used reg) no-kind (recorded reg))) _
+    (known-within _ 0 (records (used reg) no-kind (recorded reg)) (omega arith) (omega arith)) λ rs _.
+    tested-within (eqb (length rs) (count reg)) _ 0 (ok (record { latest = latest reg; records = rs })) (omega arith) (omega arith) λ _. passed
 
 module _ {Y : Type 0} {words : ℕ} (l : Lent) (o : Outline) where
   -- behind the shared tests, a call's own have places within its own words
-  shared-within : (records : Result (List Record)) (own : View → Result Y) → Within 0 records → ((v : View) → Within words (own v)) →
-      Within (length (l .sig) + words) (shared l o records own)
-  shared-within records own r f =
+  shared-within : (content : Result Content) (own : View → Result Y) → Within 0 content → ((v : View) → Within words (own v)) →
+      Within (length (l .sig) + words) (shared l o content own)
+  shared-within content own r f =
       tested-within (leb least-workspace (l .workspace)) _ 0 _ (omega arith) (omega arith) λ _.
       then-within (length-test (o .size)) _ (wider (omega arith) (length-within (o .size))) (
-      bind-within records _ (wider (omega arith) r) λ rs _.
+      bind-within content _ (wider (omega arith) r) λ c _.
       bind-within (signature (l .sig)) _ (wider (omega arith) (signature-within (l .sig))) λ Σ _.
       tested-within (operations-test Σ (l .n)) _ 0 _ (omega arith) (omega arith) λ _.
       wider (omega arith) (f _))
@@ -257,30 +271,34 @@ module _ {Y : Type 0} {words : ℕ} (l : Lent) (o : Outline) where
 fits-within : {bound : ℕ} (v : View) (rs : List Record) → Within bound (fits v rs)
 fits-within v rs = require-within (leb (v .outline .used + length (words-of rs)) (v .outline .size)) _ 0 (omega arith) (omega arith)
 
-check-own-within : (ws : List ℕ) (v : View) → Within (length ws) (check-own ws v)
-check-own-within ws v =
+check-own-within : (day : ℕ) (ws : List ℕ) (v : View) → Within (length ws) (check-own day ws v)
+check-own-within day ws v =
     bind-within (check-term (v .Σ) ws) _ (check-within (v .Σ) ws) λ c e.
-    then-within (signs-held (v .holds) (c .term)) (ok (c .type)) (wider (omega (arith, check-size (v .Σ) ws c e)) (signs-within (v .holds) (c .term))) passed
+    then-within (signs-held (v .holds day) (c .term)) (ok (c .type))
+    (wider (omega (arith, check-size (v .Σ) ws c e)) (signs-within (v .holds day) (c .term))) passed
 
-say-own-within : (st : Statement) (v : View) → Within (length (st .words)) (say-own st v)
-say-own-within st v =
-    tested-within (payload (st .principal)) _ 0 _ (omega arith) (omega arith) λ _.
+say-own-within : (day : ℕ) (st : Statement) (v : View) → Within (length (st .words)) (say-own day st v)
+say-own-within day st v =
+    tested-within (statement-test st) _ 0 _ (omega arith) (omega arith) λ _.
+    tested-within (leb (v .latest) day) _ 0 _ (omega arith) (omega arith) λ _.
     tested-within (not (eqb (st .principal) 0)) _ 0 _ (omega arith) (omega arith) λ _.
     bind-within (check-statement (v .Σ) (st .principal) (st .words)) _ (statement-within (v .Σ) (st .principal) (st .words)) λ q e.
-    then-within (signs-held (v .holds) q) _ (wider (omega (arith, statement-size (v .Σ) (st .principal) (st .words) q e)) (signs-within (v .holds) q))
-    (pick-within (v .holds (st .principal) (st .words)) _ _ passed (then-within (fits v (say-entry st)) (ok true) (fits-within v (say-entry st)) passed))
+    then-within (signs-held (v .holds day) q) _
+    (wider (omega (arith, statement-size (v .Σ) (st .principal) (st .words) q e)) (signs-within (v .holds day) q))
+    (cond-within (v .stands st) _ _ passed (then-within (fits v (say-entry st)) (ok true) (fits-within v (say-entry st)) passed))
 
 request-own-within : (k : Ask) (s : View) → Within (length (k .proof)) (request-own k s)
 request-own-within k s =
     tested-within (ask-test (s .n) k) _ 0 _ (omega arith) (omega arith) λ _.
+    tested-within (leb (s .latest) (k .day)) _ 0 _ (omega arith) (omega arith) λ _.
     bind-within (check-term (s .Σ) (k .proof)) _ (check-within (s .Σ) (k .proof)) λ c e.
     tested-within (same (c .type) (permission k)) _ 0 _ (omega arith) (omega arith) λ _.
-    then-within (signs-held (s .holds) (c .term)) _
-    (wider (omega (arith, check-size (s .Σ) (k .proof) c e)) (signs-within (s .holds) (c .term))) (fits-within s (entry k))
+    then-within (signs-held (s .holds (k .day)) (c .term)) _
+    (wider (omega (arith, check-size (s .Σ) (k .proof) c e)) (signs-within (s .holds (k .day)) (c .term))) (fits-within s (entry k))
 
 rule-numbers-within : {bound : ℕ} (at : ℕ) (st : Statement) (n : ℕ) → at ≤ bound → Within bound (rule-numbers at st n)
 rule-numbers-within at st n h =
-    tested-within (payload (st .principal)) _ at _ (omega arith) h λ _. require-within (leb 1 n && leb n most-statement-words) _ at (omega arith) h
+    tested-within (statement-test st) _ at _ (omega arith) h λ _. require-within (leb 1 n && leb n most-statement-words) _ at (omega arith) h
 
 -- a refusal of a rule is at its principal word
 opening-within : {bound : ℕ} (k : ℕ) (Σ : List Term) (at : ℕ) (rs : List Record) (ws : List ℕ) → at + length ws ≤ bound → Within bound (opening k Σ at rs ws)
@@ -297,7 +315,8 @@ opening-within {bound} (suc k) Σ at rs ws h = go (next-rule ws) refl (λ at rs 
         then-within (rule-numbers at st (length (st .words))) _ (rule-numbers-within at st (length (st .words)) (omega arith)) (
         bind-within (at-rule at (check-statement Σ (st .principal) (st .words))) _
         (at-rule-within at (check-statement Σ (st .principal) (st .words)) (omega arith) (statement-within Σ (st .principal) (st .words))) λ q _.
-        then-within (at-rule at (signs-held (held rs) q)) _ (at-rule-within at (signs-held (held rs) q) (omega arith) (signs-within (held rs) q))
+        let holds = holding none (statements rs) in
+        then-within (at-rule at (signs-held holds q)) _ (at-rule-within at (signs-held holds q) (omega arith) (signs-within holds q))
         (ih (at + rule-head + length (st .words)) (with-rule rs st) rest (omega (arith, next-rule-rest ws e))))
 
 open-own-within : (rules : List ℕ) (s : View) → Within (length rules) (open-own rules s)
@@ -307,25 +326,30 @@ open-own-within rules s =
 
 -- ---- the statements, of each call
 
-pub check-bound : (l : Lent) (reg ws : List ℕ) {m p : ℕ} → check-call l reg ws ≡ refused m p → Number m × (p ≤ length (l .sig) + length ws)
-check-bound l reg ws e = bounded-refusal (shared-within l (outline-of reg) (register-records reg) (check-own ws) (records-within reg) (check-own-within ws)) e
+pub check-bound : (l : Lent) (reg : List ℕ) (day : ℕ) (ws : List ℕ) {m p : ℕ} → check-call l reg day ws ≡ refused m p →
+    Number m × (p ≤ length (l .sig) + length ws)
+check-bound l reg day ws e =
+    bounded-refusal (shared-within l (outline-of reg) (register-content reg) (check-own day ws) (content-within reg) (check-own-within day ws)) e
 
-pub say-bound : (l : Lent) (reg : List ℕ) (st : Statement) {m p : ℕ} → say-call l reg st ≡ refused m p → Number m × (p ≤ length (l .sig) + length (st .words))
-say-bound l reg st e = bounded-refusal (shared-within l (outline-of reg) (register-records reg) (say-own st) (records-within reg) (say-own-within st)) e
+pub say-bound : (l : Lent) (reg : List ℕ) (day : ℕ) (st : Statement) {m p : ℕ} → say-call l reg day st ≡ refused m p →
+    Number m × (p ≤ length (l .sig) + length (st .words))
+say-bound l reg day st e =
+    bounded-refusal (shared-within l (outline-of reg) (register-content reg) (say-own day st) (content-within reg) (say-own-within day st)) e
 
 pub request-bound : (l : Lent) (reg : List ℕ) (k : Ask) {m p : ℕ} → request-call l reg k ≡ refused m p → Number m × (p ≤ length (l .sig) + length (k .proof))
-request-bound l reg k e = bounded-refusal (shared-within l (outline-of reg) (register-records reg) (request-own k) (records-within reg)
-    (request-own-within k)) e
+request-bound l reg k e =
+    bounded-refusal (shared-within l (outline-of reg) (register-content reg) (request-own k) (content-within reg) (request-own-within k)) e
 
 pub open-bound : (l : Lent) (reg rules : List ℕ) {m p : ℕ} → open-call l reg rules ≡ refused m p → Number m × (p ≤ length (l .sig) + length rules)
-open-bound l reg rules e = bounded-refusal (shared-within l (fresh-outline (length reg)) (ok []) (open-own rules) passed (open-own-within rules)) e
+open-bound l reg rules e = bounded-refusal (shared-within l (fresh-outline (length reg)) (ok (new-content [])) (open-own rules) passed
+    (open-own-within rules)) e
 
 -- read names no place
 read-within-none : (reg : List ℕ) (k : ℕ) → Within 0 (read-call reg k)
 read-within-none reg k =
     then-within (length-test (length reg)) _ (length-within (length reg)) (
-    bind-within (register-records reg) _ (records-within reg) λ rs _.
-    known-within _ 0 (getElem? rs k) (omega arith) (omega arith))
+    bind-within (register-content reg) _ (content-within reg) λ c _.
+    known-within _ 0 (getElem? (c .records) k) (omega arith) (omega arith))
 
 pub read-bound : (reg : List ℕ) (k : ℕ) {m p : ℕ} → read-call reg k ≡ refused m p → Number m × (p ≡ 0)
 read-bound reg k e = let (m, p) = bounded-refusal (read-within-none reg k) e in (m, omega arith)

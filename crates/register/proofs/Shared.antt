@@ -4,7 +4,7 @@ use mathlib.Core.Path.{_≡_, refl, _∙_, ap}
 use mathlib.Core.Logic.{_↔_}
 use mathlib.Core.Bool.{true, _&&_}
 use mathlib.Core.List.{List, []}
-use mathlib.Core.Option.{none}
+use mathlib.Core.Option.{Option}
 use lib.Dec.{leb}
 use lib.ListN.{length}
 use borrow.Author.Tests.{leb-true, le-leb}
@@ -12,17 +12,15 @@ use Rattle.logic.specs.Limits.{least-workspace, most-register, most-operations}
 use Rattle.logic.specs.Result.{Result, ok, refused}
 use Rattle.logic.specs.Term.{Term, encode}
 use Rattle.logic.specs.Scope.{Signature}
-use Rattle.logic.specs.Reading.{first-unheld}
 use Rattle.logic.proofs.Results.{not-ok, bound, tested, bind-is, pass, both-true, true-both}
 use Rattle.logic.proofs.Signatures.{empty-signature}
-use Rattle.logic.proofs.Searches.{first-unheld-right}
 use Rattle.logic.proofs.Refused.{inside}
 use Rattle.logic.specs.SignatureList.{Lists, signature, operations, operations-test}
-use Rattle.register.specs.Records.{Record, header, register-records, Unbroken, held}
-use Rattle.register.specs.Calls.{Lent, Outline, View, view, shared, outline-of, on-register}
+use Rattle.register.specs.Records.{Record, Content, header, register-content, Unbroken, statements, holding}
+use Rattle.register.specs.Calls.{Lent, Outline, View, view, shared, outline-of, on-register, signs-held}
 use Rattle.register.specs.Succeeds.{Ready, SignsHeld}
 use Rattle.register.proofs.Words.{unbroken-right}
-use Rattle.register.proofs.Held.{held-right}
+use Rattle.register.proofs.Held.{holding-covered, signs-ok}
 use Rattle.register.specs.History.{Setting, lent}
 use Rattle.logic.proofs.SignatureList.{well-formed, signature-right, operations-ok, ok-operations}
 
@@ -49,16 +47,16 @@ module _ (l : Lent) (o : Outline) where
       }
 
   -- and the call's own tests decide
-  pub shared-ok : {Y Z : Type 0} (rs : List Record) (own : View → Result Y) {y : Y} → shared l o (ok rs) own ≡ ok y →
-      ((Σ : List Term) → Ready l (o .size) Σ → own (view l o rs Σ) ≡ ok y → Z) → Z
-  shared-ok rs own e f =
+  pub shared-ok : {Y Z : Type 0} (c : Content) (own : View → Result Y) {y : Y} → shared l o (ok c) own ≡ ok y →
+      ((Σ : List Term) → Ready l (o .size) Σ → own (view l o c Σ) ≡ ok y → Z) → Z
+  shared-ok c own e f =
       tested (leb least-workspace (l .workspace)) _ _ _ e λ w e₁. tested (leb header (o .size) && leb (o .size) most-register) _ _ _ e₁ λ range e₂.
       bound (signature (l .sig)) _ e₂ λ Σ a e₃. tested (operations-test Σ (l .n)) _ _ _ e₃ λ p e₄.
       f Σ (made-ready (leb-true least-workspace (l .workspace) w) (inside header most-register (o .size) range) (signature-right (l .sig) Σ .0 a) p) e₄
 
-  pub shared-is : {Y : Type 0} {y : Result Y} {Σ : List Term} (rs : List Record) (own : View → Result Y) → Ready l (o .size) Σ →
-      own (view l o rs Σ) ≡ y → shared l o (ok rs) own ≡ y
-  shared-is {Σ} rs own r e =
+  pub shared-is : {Y : Type 0} {y : Result Y} {Σ : List Term} (c : Content) (own : View → Result Y) → Ready l (o .size) Σ →
+      own (view l o c Σ) ≡ y → shared l o (ok c) own ≡ y
+  shared-is {Σ} c own r e =
       pass _ _ (le-leb least-workspace (l .workspace) (r .workspace))
       (pass _ _ (true-both (le-leb header (o .size) (r .not-shorter)) (le-leb (o .size) most-register (r .not-longer)))
       (bind-is _ (signature-right (l .sig) Σ .1 (r .accepted))
@@ -66,9 +64,9 @@ module _ (l : Lent) (o : Outline) where
       (ok-operations Σ (l .n) (λ i h. (r .permits i h, r .receipts i h)))) e)))
 
   -- test 3 among them
-  unbroken-ok : {Y Z : Type 0} (records : Result (List Record)) (own : View → Result Y) {y : Y} → shared l o records own ≡ ok y →
-      ((rs : List Record) → records ≡ ok rs → shared l o (ok rs) own ≡ ok y → Z) → Z
-  unbroken-ok (ok rs) own e f = f rs refl e
+  unbroken-ok : {Y Z : Type 0} (content : Result Content) (own : View → Result Y) {y : Y} → shared l o content own ≡ ok y →
+      ((c : Content) → content ≡ ok c → shared l o (ok c) own ≡ ok y → Z) → Z
+  unbroken-ok (ok c) own e f = f c refl e
   unbroken-ok (refused m p) own e f =
       tested (leb least-workspace (l .workspace)) _ _ _ e λ w e₁.
       tested (leb header (o .size) && leb (o .size) most-register) _ _ _ e₁ λ range e₂. absurd (not-ok e₂)
@@ -76,14 +74,14 @@ module _ (l : Lent) (o : Outline) where
 -- with an accepted signature and an unbroken register, the call's own tests decide
 module _ (l : Lent) (reg : List ℕ) where
   pub register-ok : {Y Z : Type 0} (own : View → Result Y) {y : Y} → on-register l reg own ≡ ok y →
-      ((rs : List Record) (Σ : List Term) → Unbroken reg rs → Ready l (length reg) Σ → Signature Σ → own (view l (outline-of reg) rs Σ) ≡ ok y → Z) → Z
+      ((c : Content) (Σ : List Term) → Unbroken reg c → Ready l (length reg) Σ → Signature Σ → own (view l (outline-of reg) c Σ) ≡ ok y → Z) → Z
   register-ok own e f =
-      unbroken-ok l (outline-of reg) (register-records reg) own e λ rs u e₁. shared-ok l (outline-of reg) rs own e₁ λ Σ r e₂.
-      f rs Σ (unbroken-right reg rs .0 u) r (signature-of r) e₂
+      unbroken-ok l (outline-of reg) (register-content reg) own e λ c u e₁. shared-ok l (outline-of reg) c own e₁ λ Σ r e₂.
+      f c Σ (unbroken-right reg c .0 u) r (signature-of r) e₂
 
-  pub register-is : {Y : Type 0} {y : Result Y} {rs : List Record} {Σ : List Term} (own : View → Result Y) → Unbroken reg rs → Ready l (length reg) Σ →
-      own (view l (outline-of reg) rs Σ) ≡ y → on-register l reg own ≡ y
-  register-is {rs} own u r e = ap (λ x. shared l (outline-of reg) x own) (unbroken-right reg rs .1 u) ∙ shared-is l (outline-of reg) rs own r e
+  pub register-is : {Y : Type 0} {y : Result Y} {c : Content} {Σ : List Term} (own : View → Result Y) → Unbroken reg c → Ready l (length reg) Σ →
+      own (view l (outline-of reg) c Σ) ≡ y → on-register l reg own ≡ y
+  register-is {c} own u r e = ap (λ x. shared l (outline-of reg) x own) (unbroken-right reg c .1 u) ∙ shared-is l (outline-of reg) c own r e
 
 -- with another workspace that is not short, what is lent is ready too
 pub renewed : {s : Setting} {w w′ len : ℕ} {Σ : List Term} → least-workspace ≤ w′ → Ready (lent s w) len Σ → Ready (lent s w′) len Σ
@@ -98,9 +96,9 @@ renewed long r = record {
   receipts = r .receipts;
 }
 
--- no embedded Sign is found unheld exactly if all are held
-pub signs-right : (rs : List Record) (t : Term) → (first-unheld (λ a q. held rs a (encode q)) 0 t ≡ none) ↔ SignsHeld rs t
-signs-right rs t = (
-  (λ e n q i. held-right rs n (encode q) .0 (first-unheld-right (λ a q. held rs a (encode q)) t 0 .0 e n q i)),
-  λ h. first-unheld-right (λ a q. held rs a (encode q)) t 0 .1 (λ n q i. held-right rs n (encode q) .1 (h n q i)),
+-- no embedded Sign is refused exactly if all are held on the day
+pub signs-right : (day : Option ℕ) (rs : List Record) (t : Term) → (signs-held (holding day (statements rs)) t ≡ ok tt) ↔ SignsHeld day rs t
+signs-right day rs t = (
+  (λ e n q i. holding-covered day rs n (encode q) .0 (signs-ok (holding day (statements rs)) t .0 e n q i)),
+  λ h. signs-ok (holding day (statements rs)) t .1 (λ n q i. holding-covered day rs n (encode q) .1 (h n q i)),
 )

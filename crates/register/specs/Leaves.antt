@@ -9,19 +9,20 @@ use Rattle.register.specs.Records.{Record, Statement, Ask, Unbroken, use
 use Rattle.register.specs.Calls.{Lent, say-entry, entry, open-call, after-open, say-call, after-say, request-call, after-request}
 use Rattle.register.specs.Succeeds.{Openable, Sayable, Grantable}
 
--- the register has the records rs, and "words past the new used count are unchanged"
-pub record Leaves (old : List ℕ) (rs : List Record) (new : List ℕ) : Type 0 where
-  pub unbroken : Unbroken new rs
+-- the register has the latest day and the records, and "words past the new used count are unchanged"
+pub record Leaves (old : List ℕ) (day : ℕ) (rs : List Record) (new : List ℕ) : Type 0 where
+  pub unbroken : Unbroken new (record { latest = day; records = rs })
   pub size : length new ≡ length old
   pub behind : drop (used new) new ≡ drop (used new) old
 
 pub record Leaving : Type 0 where
-  -- open "writes it anew"
-  pub opened : {l : Lent} {reg rules : List ℕ} {rs : List Record} → Openable l reg rules rs → Leaves reg rs (after-open (open-call l reg rules) reg)
-  -- a say adds its statement behind the records there, "unless held"
-  pub said : {l : Lent} {reg : List ℕ} {st : Statement} (h : Sayable l reg st true) →
-      Leaves reg (h .rs ++ say-entry st) (after-say (say-call l reg st) reg st)
-  pub said-again : {l : Lent} {reg : List ℕ} {st : Statement} → Sayable l reg st false → after-say (say-call l reg st) reg st ≡ reg
-  -- a request adds grant and receipt
+  -- open "writes it anew", with the latest day 0
+  pub opened : {l : Lent} {reg rules : List ℕ} {rs : List Record} → Openable l reg rules rs → Leaves reg 0 rs (after-open (open-call l reg rules) reg)
+  -- a say adds its statement behind the records there, "unless held"; either way it sets the latest day
+  pub said : {l : Lent} {reg : List ℕ} {day : ℕ} {st : Statement} (h : Sayable l reg day st true) →
+      Leaves reg day (h .content .records ++ say-entry st) (after-say (say-call l reg day st) reg day st)
+  pub said-again : {l : Lent} {reg : List ℕ} {day : ℕ} {st : Statement} (h : Sayable l reg day st false) →
+      Leaves reg day (h .content .records) (after-say (say-call l reg day st) reg day st)
+  -- a request adds grant and receipt, and sets the latest day
   pub granted : {l : Lent} {reg : List ℕ} {k : Ask} (h : Grantable l reg k) →
-      Leaves reg (h .proof .rs ++ entry k) (after-request (request-call l reg k) reg k)
+      Leaves reg (k .day) (h .proof .content .records ++ entry k) (after-request (request-call l reg k) reg k)
