@@ -1,4 +1,3 @@
 -- What the code on records is asked, answers and writes, by the definitions of `register`.
 pub mod Items
-pub mod Sources
 pub mod Answers

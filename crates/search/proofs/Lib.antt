@@ -1,0 +1,3 @@
+-- Laws of the search, one for each step of the code.
+pub mod Sought
+pub mod Scans
