@@ -1,55 +1,43 @@
 -- Check: one law for each return, and what is handed back.
-use Prim.Native.Nat.{ℕ, _≤_}
-use native.Mathlib.Omega.{arith}
-use mathlib.Core.Path.{_≡_, refl, sym, ap, ap₂, subst, _∙_, fun-ext}
-use mathlib.Core.List.{List, []}
-use lib.Dec.{leb}
-use lib.ListN.{length, take, length-take}
+use Prim.Native.Nat.{ℕ}
+use mathlib.Core.Path.{_≡_, refl, sym, ap, ap₂, subst, _∙_}
+use mathlib.Core.List.{List}
+use lib.ListN.{length, take}
 use lib.Seq.{take-at}
-use Rattle.logic.specs.Limits.{least-workspace, most-words, most-nesting}
-use Rattle.logic.specs.Refusals.{workspace-short, bad-number, not-held}
-use Rattle.logic.specs.Result.{Result, ok, refused, _>>=_, _>>_, require}
+use Rattle.logic.specs.Limits.{most-words, most-nesting}
+use Rattle.logic.specs.Result.{Result, ok, _>>=_, _>>_}
 use Rattle.logic.specs.Term.{Term, encode, size}
-use Rattle.logic.specs.SignatureList.{signature, operations-test}
-use Rattle.logic.specs.Infer.{infer}
-use Rattle.logic.specs.Check.{term-of, check-term, Checked}
-use Rattle.logic.proofs.Basics.{clash}
-use Rattle.logic.proofs.Results.{ok-inj, bound, bind-is}
-use Rattle.logic.proofs.Stopped.{not-mapped, stop}
 use Rattle.logic.proofs.Words.{encode-size}
-use Rattle.logic.proofs.Check.{term-of-right}
-use Rattle.words.specs.Place.{Is}
-use Rattle.words.specs.Typed.{TypeAt}
-use Rattle.words.proofs.Places.{end-of}
-use Rattle.rules.specs.Form.{Front}
-use Rattle.rules.proofs.Fronts.{typed-by, refused-by}
 use Rattle.rules.specs.declared.derivation.Derivation.{Derivation}
 use Rattle.rules.specs.declared.derivation.Derivation.the-variants.{Typed, Refused}
-use Rattle.typing.specs.Check.{ConstantsOf, typed-term, Judged}
+use Rattle.typing.specs.Check.{typed-term, Judged}
 use Rattle.typing.proofs.Checks.{judged-refused}
-use Rattle.records.specs.Answers.{unheld-answer}
-use Rattle.records.specs.declared.search.Unheld.{Unheld}
-use Rattle.records.specs.declared.search.Unheld.the-variants.{Nowhere, At}
-use Rattle.register.specs.Records.{Record, register-records, held}
-use Rattle.register.specs.Calls.{Lent, Outline, View, view, length-test, shared, outline-of, on-register, signs-held, check-own, check-call}
+use Rattle.search.specs.Answers.{miss-answer}
+use Rattle.search.specs.declared.statement.Missed.{Missed}
+use Rattle.search.specs.declared.statement.Missed.the-variants.{Nowhere, At}
+use Rattle.register.specs.Calls.{Lent, Holding, view, outline-of, signs-held, check-own, check-call}
 use Rattle.check_call.specs.Answers.{HandedAs}
-use Rattle.shared_tests.specs.Shared.{ready-answer, prepared, constants-found, LentSo, PreparedAs}
-use Rattle.shared_tests.proofs.OwnTests.{not-prepared, PassedSo, typed-refused, TypeFound, type-found, type-refused, TypedSo, typed-so, words-within}
+use Rattle.shared_tests.specs.Shared.{PreparedAs}
+use Rattle.shared_tests.proofs.OwnTests.{not-prepared, PassedSo, typed-refused, TypeFound, type-found, type-refused, TypedSo, typed-so}
 use Rattle.shared_tests.specs.declared.Ready.{Ready}
-use Rattle.shared_tests.specs.declared.Ready.the-variants.{Constants, Refused as ReadyRefused}
+use Rattle.shared_tests.specs.declared.Ready.the-variants.{Refused as ReadyRefused}
 
-module _ (l : Lent) (reg table term : List ℕ) (r : Ready) (P : PreparedAs l reg table r) where
-  pub check-not-prepared : (new : List ℕ) (m p : ℕ) → r ≡ ReadyRefused m p → Judged (check-call l reg term) (length term) new (Refused m p)
-  check-not-prepared new m p q = judged-refused _ _ new m p (not-prepared l reg table r (check-own term) P m p q)
+module _ (l : Lent) (reg table : List ℕ) (day : ℕ) (term : List ℕ) (r : Ready) (P : PreparedAs l reg table r) where
+  pub check-not-prepared : (new : List ℕ) (m p : ℕ) → r ≡ ReadyRefused m p → Judged (check-call l reg day term) (length term) new (Refused m p)
+  check-not-prepared new m p q = judged-refused _ _ new m p (not-prepared l reg table r (check-own day term) P m p q)
 
-  module _ (count : ℕ) (so : PassedSo l reg table r (check-own term) P count) where
+  module _ (count : ℕ) (so : PassedSo l reg table r (check-own day term) P count) where
+    -- what is held on the day
+    abbrev holds : Holding
+    holds = view l (outline-of reg) (so .content) (so .Σ) .holds day
+
     pub check-not-typed : (new : List ℕ) (d : Derivation) (m p : ℕ) →
         Judged (typed-term (so .Σ) most-words most-nesting term) (length term) new d → d ≡ Refused m p →
-        Judged (check-call l reg term) (length term) new d
+        Judged (check-call l reg day term) (length term) new d
     check-not-typed new d m p J e =
         let h = typed-refused (so .Σ) term m p (type-refused _ _ new d m p J e) in
-        subst (Judged (check-call l reg term) (length term) new) (sym e)
-        (judged-refused _ _ new m p (so .is ∙ ap (λ x. x >>= λ c. signs-held (held (so .rs)) (c .term) >> ok (c .type)) h))
+        subst (Judged (check-call l reg day term) (length term) new) (sym e)
+        (judged-refused _ _ new m p (so .is ∙ ap (λ x. x >>= λ c. signs-held holds (c .term) >> ok (c .type)) h))
 
     module _ (new : List ℕ) (d : Derivation) (words e : ℕ)
         (J : Judged (typed-term (so .Σ) most-words most-nesting term) (length term) new d) (f : d ≡ Typed words e) where
@@ -59,18 +47,18 @@ module _ (l : Lent) (reg table term : List ℕ) (r : Ready) (P : PreparedAs l re
       pub check-term-found : TypedSo (so .Σ) term (check-type .type)
       check-term-found = typed-so (so .Σ) term (check-type .type) (check-type .is)
 
-      check-is : check-call l reg term ≡ (signs-held (held (so .rs)) (check-term-found .term) >> ok (check-type .type))
-      check-is = so .is ∙ ap (λ x. x >>= λ c. signs-held (held (so .rs)) (c .term) >> ok (c .type)) (check-term-found .is)
+      check-is : check-call l reg day term ≡ (signs-held holds (check-term-found .term) >> ok (check-type .type))
+      check-is = so .is ∙ ap (λ x. x >>= λ c. signs-held holds (c .term) >> ok (c .type)) (check-term-found .is)
 
-      pub check-unheld : (u : Unheld) (p : ℕ) → unheld-answer u ≡ signs-held (held (so .rs)) (check-term-found .term) → u ≡ At p →
-          Judged (check-call l reg term) (length term) new (Refused not-held p)
-      check-unheld u p g h = judged-refused _ _ new not-held p (check-is ∙ ap (λ x. x >> ok (check-type .type)) (sym g ∙ ap unheld-answer h))
+      pub check-missed : (u : Missed) (m p : ℕ) → miss-answer u ≡ signs-held holds (check-term-found .term) → u ≡ At m p →
+          Judged (check-call l reg day term) (length term) new (Refused m p)
+      check-missed u m p g h = judged-refused _ _ new m p (check-is ∙ ap (λ x. x >> ok (check-type .type)) (sym g ∙ ap miss-answer h))
 
-      pub check-held : (u : Unheld) → unheld-answer u ≡ signs-held (held (so .rs)) (check-term-found .term) → u ≡ Nowhere →
-          Judged (check-call l reg term) (length term) new d
+      pub check-held : (u : Missed) → miss-answer u ≡ signs-held holds (check-term-found .term) → u ≡ Nowhere →
+          Judged (check-call l reg day term) (length term) new d
       check-held u g h =
-          let i : typed-term (so .Σ) most-words most-nesting term ≡ check-call l reg term = check-type .is ∙ sym
-          (check-is ∙ ap (λ x. x >> ok (check-type .type)) (sym g ∙ ap unheld-answer h)) in
+          let i : typed-term (so .Σ) most-words most-nesting term ≡ check-call l reg day term = check-type .is ∙ sym
+          (check-is ∙ ap (λ x. x >> ok (check-type .type)) (sym g ∙ ap miss-answer h)) in
           subst (λ (x : Result Term). Judged x (length term) new d) i J
 
 -- ---- what is handed back

@@ -2,11 +2,11 @@
 use logic::limit::MOST_CONSTANTS;
 use logic::limit::MOST_NESTING;
 use logic::limit::MOST_WORDS;
-use logic::refusal::NOT_HELD;
-use records::search::Unheld;
-use records::search::first_unheld;
-use records::search::in_register;
 use rules::derivation::Derivation;
+use search::statement::Missed;
+use search::statement::When;
+use search::statement::first_miss;
+use search::statement::in_register;
 use shared_tests::Ready;
 use shared_tests::prepare;
 use typing::check::check_term;
@@ -17,8 +17,15 @@ ghost use Rattle.check_call.specs.Answers.{HandedAs};
 ghost use Rattle.shared_tests.specs.Shared.{lent-of};
 
 // Tests 1 to 12 and 14. The type stands at the front of the workspace.
-pub fn judge(sig: &[u32], n: u32, register: &[u32], term: &[u32], ws: &mut [u32]) -> Derivation
-    ensures { λ r. ⌜ Judged (check-call (lent-of (now (sig .entry)) n (now (ws .entry))) (now (register .entry)) (now (term .entry)))
+pub fn judge(
+    sig: &[u32],
+    n: u32,
+    register: &[u32],
+    day: u32,
+    term: &[u32],
+    ws: &mut [u32],
+) -> Derivation
+    ensures { λ r. ⌜ Judged (check-call (lent-of (now (sig .entry)) n (now (ws .entry))) (now (register .entry)) day (now (term .entry)))
         (length (now (term .entry))) (now (ws .exit)) r ⌝ }
 {
     let mut table = [0u32; MOST_CONSTANTS];
@@ -31,13 +38,10 @@ pub fn judge(sig: &[u32], n: u32, register: &[u32], term: &[u32], ws: &mut [u32]
                 return typed;
             };
             let source = in_register(register);
-            let unheld = first_unheld(source, register, term);
-            match unheld {
-                Unheld::At(place) => Derivation::Refused {
-                    number: NOT_HELD,
-                    place,
-                },
-                Unheld::Nowhere => typed,
+            let miss = first_miss(source, register, term, When::On(day));
+            match miss {
+                Missed::At { number, place } => Derivation::Refused { number, place },
+                Missed::Nowhere => typed,
             }
         }
     }
@@ -48,15 +52,16 @@ pub fn check<'a>(
     sig: &[u32],
     n: u32,
     register: &[u32],
+    day: u32,
     term: &[u32],
     ws: &'a mut [u32],
     number: &mut u32,
     place: &mut usize,
 ) -> &'a mut [u32]
-    ensures { λ r. ⌜ HandedAs (check-call (lent-of (now (sig .entry)) n (now (ws .entry))) (now (register .entry)) (now (term .entry)))
+    ensures { λ r. ⌜ HandedAs (check-call (lent-of (now (sig .entry)) n (now (ws .entry))) (now (register .entry)) day (now (term .entry)))
         (now r) (now (number .exit)) (now (place .exit)) ⌝ }
 {
-    let judged = judge(sig, n, register, term, ws);
+    let judged = judge(sig, n, register, day, term, ws);
     match judged {
         Derivation::Typed { words, end: _ } => {
             *number = 0;

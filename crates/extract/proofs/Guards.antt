@@ -3,10 +3,10 @@ use mathlib.Core.Path.{refl}
 use native.Mathlib.Decide.{ℕ-discrete}
 use Rattle.logic.specs.Term.{size, encode}
 use Rattle.logic.specs.Move.{shift, fill-at, occurs}
-use Rattle.logic.specs.Reading.{read, too-deep, first-unheld}
+use Rattle.logic.specs.Reading.{read, too-deep, first-miss}
 use Rattle.logic.specs.Infer.{infer, same-term, conclusion}
 use Rattle.logic.specs.SignatureList.{constants, operations}
-use Rattle.register.specs.Records.{records, words-of, held, same-words}
+use Rattle.register.specs.Records.{records, words-of, statements-from, some-of, same-words}
 use Rattle.register.specs.Calls.{opening}
 use Rattle.register.specs.History.{run}
 use Rattle.register.specs.Worked.{listed}
@@ -16,8 +16,8 @@ use Rattle.extract.specs.Desk.{desk-run, desk-answers}
 use Rattle.extract.specs.Guards.{ExtractGuards}
 
 pub extract-guards : ExtractGuards
-unfolding infer same-term conclusion read too-deep first-unheld shift fill-at occurs size encode ℕ-discrete constants operations records
-    words-of held same-words opening run listed rising rows formed survey-code joined extract-call desk-run desk-answers
+unfolding infer same-term conclusion read too-deep first-miss shift fill-at occurs size encode ℕ-discrete constants operations records
+    words-of statements-from some-of same-words opening run listed rising rows formed survey-code joined extract-call desk-run desk-answers
 extract-guards = record {
   granted = refl;
   written = refl;
@@ -27,6 +27,8 @@ extract-guards = record {
   short-output = refl;
   workspace = refl;
   no-room = refl;
+  too-early = refl;
+  lapsed-say = refl;
   not-said = refl;
   not-written = refl;
   register-kept = refl;

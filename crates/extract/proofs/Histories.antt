@@ -8,8 +8,8 @@ use mathlib.Core.List.{List·Permᴰ·trans, Permᴰ·refl, Permᴰ·symm, Perm�
 use Rattle.logic.specs.Refusals.{out-of-form}
 use Rattle.logic.specs.Result.{Result, refused}
 use Rattle.typing.specs.Check.{without-value}
-use Rattle.register.specs.Records.{Ask, register-records, written}
-use Rattle.register.specs.Calls.{after-request}
+use Rattle.register.specs.Records.{Ask, register-content, written}
+use Rattle.register.specs.Calls.{after-request, new-content}
 use Rattle.register.specs.History.{Setting, lent, Call, Reply, request, requested, reply, after, Refused, run, NoRefusal}
 use Rattle.register.proofs.Demand.{demand3}
 use Rattle.homes.specs.Homes.{formed}
@@ -106,12 +106,13 @@ none-refused s reg (c ∷ cs) n =
 
 pub desk-demand3 : DeskDemand3
 desk-demand3 s w given rule-words rules calls e =
-    let reg : List ℕ = written given rules in
-    let d = demand3 s w given rule-words rules (as-requests calls) e .1 in
+    let reg : List ℕ = written given (new-content rules) in
+    let d = demand3 s w given rule-words rules (as-requests calls) e .2 in
     record {
       same-register = extracts-as-requests s reg calls;
       answered = answered s reg calls;
       demand = d;
-      recorded = ap register-records (extracts-as-requests s reg calls) ∙ d .recorded;
-      reordered = λ calls′ π n n′. d .reordered (as-requests calls′) (requests-perm π) (none-refused s reg calls n) (none-refused s reg calls′ n′);
+      recorded = ap register-content (extracts-as-requests s reg calls) ∙ d .content;
+      reordered = λ day calls′ one π n n′.
+          d .reordered day (as-requests calls′) one (requests-perm π) (none-refused s reg calls n) (none-refused s reg calls′ n′);
     }

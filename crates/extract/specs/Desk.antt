@@ -7,9 +7,9 @@ use lib.ListN.{length}
 use Rattle.logic.specs.Refusals.{out-of-form}
 use Rattle.logic.specs.Result.{ok, refused}
 use Rattle.typing.specs.Check.{without-value}
-use Rattle.register.specs.Records.{Record, Ask, register-records, written}
-use Rattle.register.specs.Calls.{after-request, open-call}
-use Rattle.register.specs.History.{Setting, lent, Call, Reply, request, requested, reply, after, Refused, run, read-off, Demand, Reordered}
+use Rattle.register.specs.Records.{Record, Ask, Content, register-content, written}
+use Rattle.register.specs.Calls.{after-request, open-call, new-content}
+use Rattle.register.specs.History.{Setting, lent, Call, Reply, request, requested, reply, after, Refused, run, read-off, OneDay, Demand, Reordered}
 use Rattle.homes.specs.Homes.{formed}
 use Rattle.extract.specs.Extract.{extract-call}
 
@@ -63,20 +63,20 @@ unfoldable pub NoDeskRefusal : Setting → List ℕ → List DeskCall → Type 0
 NoDeskRefusal s reg [] = Unit {0}
 NoDeskRefusal s reg (c ∷ cs) = (Refused (desk-reply s reg c) → ⊥) × NoDeskRefusal s (desk-after s reg c) cs
 
--- the third demand for one history with extracts: reg is the register just opened, rules its records
-pub record DeskDemand (s : Setting) (reg : List ℕ) (rules : List Record) (calls : List DeskCall) : Type 0 where
+-- the third demand for one history with extracts: reg is the register just opened, c its content
+pub record DeskDemand (s : Setting) (reg : List ℕ) (c : Content) (calls : List DeskCall) : Type 0 where
   -- each extract replaced by its request, and by nothing where it is 21, leaves the same register
   pub same-register : desk-run s reg calls ≡ run s reg (as-requests calls)
   -- and the same answers
   pub answered : desk-answers s reg calls ≡ answers-as-requests s reg calls
   -- so the third demand speaks of it
-  pub demand : Demand s reg rules (as-requests calls)
-  pub recorded : register-records (desk-run s reg calls) ≡ ok (read-off s (length reg) rules (as-requests calls))
-  -- if neither of two orders has a refusal, they leave alike registers
-  pub reordered : (calls′ : List DeskCall) → List·Permᴰ calls calls′ → NoDeskRefusal s reg calls → NoDeskRefusal s reg calls′ →
-      Reordered s reg rules (as-requests calls) (as-requests calls′)
+  pub demand : Demand s reg c (as-requests calls)
+  pub recorded : register-content (desk-run s reg calls) ≡ ok (read-off s (length reg) c (as-requests calls))
+  -- if neither of two orders of calls of one day has a refusal, they leave alike registers
+  pub reordered : (day : ℕ) (calls′ : List DeskCall) → OneDay day (as-requests calls) → List·Permᴰ calls calls′ → NoDeskRefusal s reg calls →
+      NoDeskRefusal s reg calls′ → Reordered s reg c (as-requests calls) (as-requests calls′)
 
 -- for every opening that succeeded and every list of calls after it
 abbrev pub DeskDemand3 : Type 0
 DeskDemand3 = (s : Setting) (w : ℕ) (given rule-words : List ℕ) (rules : List Record) (calls : List DeskCall) →
-    open-call (lent s w) given rule-words ≡ ok rules → DeskDemand s (written given rules) rules calls
+    open-call (lent s w) given rule-words ≡ ok rules → DeskDemand s (written given (new-content rules)) (new-content rules) calls

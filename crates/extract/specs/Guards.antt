@@ -15,7 +15,7 @@ use Rattle.extract.specs.Desk.{DeskCall, extract, desk-run, desk-answers
 
 -- document 01's request
 abbrev pub asked : Ask
-asked = ask-of 0 7 9 (encode p)
+asked = ask-of 0 7 9 15 (encode p)
 
 -- as an extract: three homes and one survey
 abbrev pub three-homes : (workspace room : ℕ) → DeskCall
@@ -32,19 +32,21 @@ held-by len = run setting (opened-sample len) (say-consent ∷ [])
 pub record ExtractGuards : Type 0 where
   -- "After a grant it writes every home in the list's order with its survey code, or 4294967295 where no survey
   -- exists"; "output past the last home is unchanged"
-  pub granted : extract-call (lent setting 12288) (held-by 64) asked (1 ∷ 2 ∷ 4294967295 ∷ []) (2 ∷ 50 ∷ []) 7
+  pub granted : extract-call (lent setting 12288) (held-by 70) asked (1 ∷ 2 ∷ 4294967295 ∷ []) (2 ∷ 50 ∷ []) 7
       ≡ ok (1 ∷ 4294967295 ∷ 2 ∷ 50 ∷ 4294967295 ∷ 4294967295 ∷ [])
-  pub written : after-write (extract-call (lent setting 12288) (held-by 64) asked (1 ∷ []) (1 ∷ 50 ∷ []) 3) (7 ∷ 8 ∷ 9 ∷ []) ≡ 1 ∷ 50 ∷ 9 ∷ []
+  pub written : after-write (extract-call (lent setting 12288) (held-by 70) asked (1 ∷ []) (1 ∷ 50 ∷ []) 3) (7 ∷ 8 ∷ 9 ∷ []) ≡ 1 ∷ 50 ∷ 9 ∷ []
   -- "one request for the extract": the register is the one that the request leaves
-  pub register : desk-run setting (held-by 64) (three-homes 12288 6 ∷ []) ≡ run setting (held-by 64) (request-extract ∷ [])
+  pub register : desk-run setting (held-by 70) (three-homes 12288 6 ∷ []) ≡ run setting (held-by 70) (request-extract ∷ [])
   -- "is refused with 21 before the request is tried", before the workspace's test too
-  pub form-first : desk-answers setting (held-by 64) (equal-homes 12288 6 ∷ []) ≡ requested (refused 21 0) ∷ []
-  pub before-workspace : desk-answers setting (held-by 64) (equal-homes 0 6 ∷ []) ≡ requested (refused 21 0) ∷ []
-  pub short-output : desk-answers setting (held-by 64) (three-homes 12288 5 ∷ []) ≡ requested (refused 21 0) ∷ []
+  pub form-first : desk-answers setting (held-by 70) (equal-homes 12288 6 ∷ []) ≡ requested (refused 21 0) ∷ []
+  pub before-workspace : desk-answers setting (held-by 70) (equal-homes 0 6 ∷ []) ≡ requested (refused 21 0) ∷ []
+  pub short-output : desk-answers setting (held-by 70) (three-homes 12288 5 ∷ []) ≡ requested (refused 21 0) ∷ []
   -- then the request's own refusals
-  pub workspace : desk-answers setting (held-by 64) (three-homes 12287 6 ∷ []) ≡ requested (refused 1 0) ∷ []
-  pub no-room : desk-answers setting (held-by 63) (three-homes 12288 6 ∷ []) ≡ requested (refused 16 0) ∷ []
-  pub not-said : desk-answers setting (opened-sample 64) (three-homes 12288 6 ∷ []) ≡ requested (refused 14 23) ∷ []
+  pub workspace : desk-answers setting (held-by 70) (three-homes 12287 6 ∷ []) ≡ requested (refused 1 0) ∷ []
+  pub no-room : desk-answers setting (held-by 69) (three-homes 12288 6 ∷ []) ≡ requested (refused 16 0) ∷ []
+  pub too-early : desk-answers setting (held-by 70) (extract 12288 (ask-of 0 7 9 14 (encode p)) [] [] 0 ∷ []) ≡ requested (refused 23 0) ∷ []
+  pub lapsed-say : desk-answers setting (held-by 70) (extract 12288 (ask-of 0 7 9 19 (encode p)) [] [] 0 ∷ []) ≡ requested (refused 22 23) ∷ []
+  pub not-said : desk-answers setting (opened-sample 70) (three-homes 12288 6 ∷ []) ≡ requested (refused 14 23) ∷ []
   -- "A refused request writes nothing"
-  pub not-written : after-write (extract-call (lent setting 12287) (held-by 64) asked (1 ∷ []) (1 ∷ 50 ∷ []) 3) (7 ∷ 8 ∷ 9 ∷ []) ≡ 7 ∷ 8 ∷ 9 ∷ []
-  pub register-kept : desk-run setting (held-by 63) (equal-homes 12288 6 ∷ three-homes 12288 6 ∷ []) ≡ held-by 63
+  pub not-written : after-write (extract-call (lent setting 12287) (held-by 70) asked (1 ∷ []) (1 ∷ 50 ∷ []) 3) (7 ∷ 8 ∷ 9 ∷ []) ≡ 7 ∷ 8 ∷ 9 ∷ []
+  pub register-kept : desk-run setting (held-by 69) (equal-homes 12288 6 ∷ three-homes 12288 6 ∷ []) ≡ held-by 69

@@ -14,6 +14,7 @@ pub fn extract(
     sig: &[u32],
     n: u32,
     register: &mut [u32],
+    day: u32,
     operation: u32,
     extract: u32,
     delivery: u32,
@@ -24,7 +25,7 @@ pub fn extract(
     out: &mut [u32],
 ) -> Verdict
     ensures { λ r. ⌜ ExtractedAs (lent-of (now (sig .entry)) n (now (ws .entry))) (now (register .entry))
-        (ask-of operation extract delivery (now (proof .entry))) (now (homes .entry)) (now (surveys .entry))
+        (ask-of operation extract delivery day (now (proof .entry))) (now (homes .entry)) (now (surveys .entry))
         (now (register .exit)) (now (out .entry)) (now (out .exit)) r ⌝ }
 {
     let fine = well_formed(homes, surveys, out.len());
@@ -34,7 +35,17 @@ pub fn extract(
             place: 0,
         };
     }
-    let answer = request(sig, n, register, operation, extract, delivery, proof, ws);
+    let answer = request(
+        sig,
+        n,
+        register,
+        day,
+        operation,
+        extract,
+        delivery,
+        proof,
+        ws,
+    );
     let Verdict::Passed = answer else {
         return answer;
     };

@@ -9,7 +9,7 @@ use Rattle.logic.specs.Term.{Term}
 use Rattle.words.specs.Place.{Is}
 use Rattle.rules.specs.declared.derivation.Verdict.{Verdict}
 use Rattle.rules.specs.Form.{verdict-answer}
-use Rattle.register.specs.Records.{Record, Ask, register-records}
+use Rattle.register.specs.Records.{Content, Ask, register-content}
 use Rattle.register.specs.Calls.{Lent, request-call, after-request}
 
 -- the answer, and the register afterwards
@@ -19,8 +19,8 @@ pub record RequestedAs (l : Lent) (old : List ℕ) (k : Ask) (new : List ℕ) (r
 
 -- a proof whose type is the first n words of the workspace, and a register that is not broken
 pub record Provable (reg : List ℕ) (i v : ℕ) (p ws : List ℕ) (n : ℕ) : Type 0 where
-  pub rs : List Record
-  pub reads : register-records reg ≡ ok rs
+  pub content : Content
+  pub reads : register-content reg ≡ ok content
   pub term : Term
   pub is : Is p term
   pub operation : i < most-operations

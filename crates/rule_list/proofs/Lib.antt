@@ -1,4 +1,3 @@
 -- Laws of rule lists, one for each step of the code.
 pub mod RuleList
-pub mod Openings
 pub mod Writes

@@ -1,10 +1,13 @@
 // What the rules of a rule list take, before anything is written.
+use records::format::FIRST;
 use records::format::HEADER;
+use records::format::LAST;
+use records::format::PRINCIPAL;
 use records::format::RULE_HEAD;
 use records::format::RULE_LENGTH;
 use records::format::STATEMENT_WORDS;
-use records::search::is_held;
-use records::search::rules_before;
+use search::statement::rules_before;
+use search::statement::stands;
 ghost use mathlib.Core.Path.{_≡_};
 ghost use Rattle.register.specs.Records.{used-by};
 ghost use Rattle.register.specs.History.{rules-of};
@@ -22,7 +25,14 @@ pub fn opening_words(rules: &[u32]) -> usize
         let start = at + RULE_HEAD;
         let end = start + n;
         let earlier = rules_before(at);
-        let repeated = is_held(earlier, rules, rules[at], &rules[start..end]);
+        let repeated = stands(
+            earlier,
+            rules,
+            rules[at + PRINCIPAL],
+            rules[at + FIRST],
+            rules[at + LAST],
+            &rules[start..end],
+        );
         if !repeated {
             total = total + STATEMENT_WORDS + n;
         }

@@ -7,7 +7,7 @@ use lib.Dec.{leb}
 use lib.ListN.{length, take, length-take}
 use lib.Seq.{take-at}
 use Rattle.logic.specs.Limits.{least-workspace, most-words, most-nesting}
-use Rattle.logic.specs.Refusals.{workspace-short, bad-number, not-held}
+use Rattle.logic.specs.Refusals.{workspace-short, bad-number}
 use Rattle.logic.specs.Result.{Result, ok, refused, _>>=_, _>>_, require}
 use Rattle.logic.specs.Term.{Term, encode, size}
 use Rattle.logic.specs.SignatureList.{signature, operations-test}
@@ -26,11 +26,8 @@ use Rattle.rules.proofs.Fronts.{typed-by, refused-by}
 use Rattle.rules.specs.declared.derivation.Derivation.{Derivation}
 use Rattle.rules.specs.declared.derivation.Derivation.the-variants.{Typed, Refused}
 use Rattle.typing.specs.Check.{ConstantsOf, typed-term, Judged}
-use Rattle.records.specs.Answers.{unheld-answer}
-use Rattle.records.specs.declared.search.Unheld.{Unheld}
-use Rattle.records.specs.declared.search.Unheld.the-variants.{Nowhere, At}
-use Rattle.register.specs.Records.{Record, register-records, held}
-use Rattle.register.specs.Calls.{Lent, Outline, View, view, length-test, shared, outline-of, on-register, signs-held, check-own, check-call}
+use Rattle.register.specs.Records.{Content, register-content}
+use Rattle.register.specs.Calls.{Lent, Outline, View, view, length-test, shared, outline-of, on-register}
 use Rattle.shared_tests.specs.Shared.{ready-answer, prepared, constants-found, LentSo, PreparedAs}
 use Rattle.shared_tests.proofs.SharedTests.{bind-bind}
 use Rattle.shared_tests.specs.declared.Ready.{Ready}
@@ -42,15 +39,15 @@ then-bind : {X Y Z : Type 0} (a : Result X) (r : Result Y) (g : Y → Result Z) 
 then-bind (ok x) r g = refl
 then-bind (refused m p) r g = refl
 
-pub own-tests : {Y : Type 0} (l : Lent) (o : Outline) (records : Result (List Record)) (own : View → Result Y) →
-    shared l o records own ≡ (shared l o records ok >>= own)
-own-tests l o records own =
+pub own-tests : {Y : Type 0} (l : Lent) (o : Outline) (content : Result Content) (own : View → Result Y) →
+    shared l o content own ≡ (shared l o content ok >>= own)
+own-tests l o content own =
     sym (then-bind (require (leb least-workspace (l .workspace)) workspace-short 0) _ own ∙ ap
     (λ x. require (leb least-workspace (l .workspace)) workspace-short 0 >> x)
     (then-bind (length-test (o .size)) _ own ∙ ap (λ x. length-test (o .size) >> x)
-    (bind-bind records _ own ∙ ap (λ k. records >>= k) (fun-ext λ rs.
+    (bind-bind content _ own ∙ ap (λ k. content >>= k) (fun-ext λ c.
     bind-bind (signature (l .sig)) _ own ∙ ap (λ k. signature (l .sig) >>= k) (fun-ext λ Σ.
-    then-bind (require (operations-test Σ (l .n)) bad-number 0) (ok (view l o rs Σ)) own)))))
+    then-bind (require (operations-test Σ (l .n)) bad-number 0) (ok (view l o c Σ)) own)))))
 
 -- what an answer that refuses tells
 pub not-ready : (o : Result View) (r : Ready) → ready-answer r ≡ constants-found o → (m p : ℕ) → r ≡ ReadyRefused m p → o ≡ refused m p
@@ -59,17 +56,17 @@ not-ready o r e m p q = not-mapped (λ v. length (v .Σ)) o (sym e ∙ ap ready-
 module _ {Y : Type 0} (l : Lent) (reg table : List ℕ) (r : Ready) (own : View → Result Y) (P : PreparedAs l reg table r) where
   -- the shared tests refused
   pub not-prepared : (m p : ℕ) → r ≡ ReadyRefused m p → on-register l reg own ≡ refused m p
-  not-prepared m p q = own-tests l (outline-of reg) (register-records reg) own ∙ stop own (not-ready (prepared l reg) r (P .answer) m p q)
+  not-prepared m p q = own-tests l (outline-of reg) (register-content reg) own ∙ stop own (not-ready (prepared l reg) r (P .answer) m p q)
 
   -- or found a register that is not broken and a signature that is accepted
   pub record PassedSo (count : ℕ) : Type 0 where
-    pub rs : List Record
-    pub reads : register-records reg ≡ ok rs
+    pub content : Content
+    pub reads : register-content reg ≡ ok content
     pub Σ : List Term
     pub counted : count ≡ length Σ
     pub constants : ConstantsOf (l .sig) (take count table) Σ
-    pub lent-so : LentSo l (outline-of reg) rs table (view l (outline-of reg) rs Σ)
-    pub is : on-register l reg own ≡ own (view l (outline-of reg) rs Σ)
+    pub lent-so : LentSo l (outline-of reg) content table (view l (outline-of reg) content Σ)
+    pub is : on-register l reg own ≡ own (view l (outline-of reg) content Σ)
 
   pub passed-so : (count : ℕ) → r ≡ Constants count → PassedSo count
   passed-so count q = bound (prepared l reg) _ (sym (P .answer) ∙ ap ready-answer q) λ v e n.
@@ -77,13 +74,13 @@ module _ {Y : Type 0} (l : Lent) (reg table : List ℕ) (r : Ready) (own : View 
       let S = R .lent-so in
       let c : count ≡ length (v .Σ) = sym (ok-inj n) in
       record {
-        rs = R .rs;
+        content = R .content;
         reads = R .reads;
         Σ = v .Σ;
         counted = c;
         constants = subst (λ (i : ℕ). ConstantsOf (l .sig) (take i table) (v .Σ)) (sym c) (S .constants);
-        lent-so = subst (LentSo l (outline-of reg) (R .rs) table) (S .is) S;
-        is = own-tests l (outline-of reg) (register-records reg) own ∙ bind-is own e (ap own (S .is));
+        lent-so = subst (LentSo l (outline-of reg) (R .content) table) (S .is) S;
+        is = own-tests l (outline-of reg) (register-content reg) own ∙ bind-is own e (ap own (S .is));
       }
 
 -- ---- a term's type

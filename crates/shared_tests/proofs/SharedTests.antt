@@ -6,8 +6,8 @@ use mathlib.Core.Bool.{Bool, true, false, _&&_}
 use mathlib.Core.List.{List, []}
 use lib.Dec.{leb}
 use lib.ListN.{length, take}
-use borrow.Author.Tests.{le-leb, lt-leb, leb-true}
-use Rattle.logic.specs.Limits.{least-workspace, most-register, most-operations}
+use borrow.Author.Tests.{lt-ltb, le-ltb, le-leb, lt-leb, leb-true}
+use Rattle.logic.specs.Limits.{payloads, least-workspace, most-register, most-operations}
 use Rattle.logic.specs.Refusals.{workspace-short, register-length, register-broken, bad-signature, bad-number}
 use Rattle.logic.specs.Result.{Result, ok, refused, _>>=_, _>>_, require, number-of}
 use Rattle.logic.specs.Term.{Term}
@@ -24,8 +24,9 @@ use Rattle.records.specs.Answers.{record-count, contents-answer}
 use Rattle.records.specs.declared.walk.Contents.{Contents}
 use Rattle.records.specs.declared.walk.Contents.the-variants.{Broken, Whole}
 use Rattle.records.proofs.Walks.{contents-broken, contents-whole}
-use Rattle.register.specs.Records.{Record, header, register-records}
-use Rattle.register.specs.Calls.{Lent, Outline, View, view, length-test, shared, outline-of, fresh-outline}
+use Rattle.register.specs.Records.{Content, Statement, header, latest, register-content}
+use Rattle.register.proofs.Words.{unbroken-right}
+use Rattle.register.specs.Calls.{Lent, Outline, View, view, length-test, shared, outline-of, fresh-outline, new-content, statement-test}
 use Rattle.shared_tests.specs.Shared.{lengths-test, signed, ready-answer, SignedAs, constants-found, prepared}
 use Rattle.shared_tests.specs.Shared.{prepared-to-open, LentSo, PreparedAs, OpenedAs}
 use Rattle.shared_tests.specs.declared.Ready.{Ready}
@@ -130,35 +131,35 @@ then-refused (refused m p) b c e = cc
 
 module _ {Y : Type 0} (l : Lent) (o : Outline) (own : View → Result Y) where
   -- tests 4 and 5, and then the call's own
-  rest : List Record → Result Y
-  rest rs = signed (l .sig) (l .n) >>= λ Σ. own (view l o rs Σ)
+  rest : Content → Result Y
+  rest c = signed (l .sig) (l .n) >>= λ Σ. own (view l o c Σ)
 
-  signed-then : (rs : List Record) → (signature (l .sig) >>= λ Σ. require (operations-test Σ (l .n)) bad-number 0 >> own (view l o rs Σ)) ≡ rest rs
+  signed-then : (c : Content) → (signature (l .sig) >>= λ Σ. require (operations-test Σ (l .n)) bad-number 0 >> own (view l o c Σ)) ≡ rest c
   unfolding rest
-  signed-then rs = go (signature (l .sig))
+  signed-then c = go (signature (l .sig))
     where
-      tests : (b : Bool) (Σ : List Term) → (require b bad-number 0 >> own (view l o rs Σ)) ≡ ((require b bad-number 0 >> ok Σ) >>= λ Σ. own (view l o rs Σ))
+      tests : (b : Bool) (Σ : List Term) → (require b bad-number 0 >> own (view l o c Σ)) ≡ ((require b bad-number 0 >> ok Σ) >>= λ Σ. own (view l o c Σ))
       tests true Σ = refl
       tests false Σ = refl
 
-      go : (x : Result (List Term)) → (x >>= λ Σ. require (operations-test Σ (l .n)) bad-number 0 >> own (view l o rs Σ)) ≡
-          ((x >>= λ Σ. require (operations-test Σ (l .n)) bad-number 0 >> ok Σ) >>= λ Σ. own (view l o rs Σ))
+      go : (x : Result (List Term)) → (x >>= λ Σ. require (operations-test Σ (l .n)) bad-number 0 >> own (view l o c Σ)) ≡
+          ((x >>= λ Σ. require (operations-test Σ (l .n)) bad-number 0 >> ok Σ) >>= λ Σ. own (view l o c Σ))
       go (ok Σ) = tests (operations-test Σ (l .n)) Σ
       go (refused m p) = refl
 
-  pub shared-refused : (records : Result (List Record)) {m p : ℕ} → lengths-test (l .workspace) (o .size) ≡ refused m p → shared l o records own ≡ refused m p
-  shared-refused records e = then-refused (require (leb least-workspace (l .workspace)) workspace-short 0) (length-test (o .size)) _ e
+  pub shared-refused : (content : Result Content) {m p : ℕ} → lengths-test (l .workspace) (o .size) ≡ refused m p → shared l o content own ≡ refused m p
+  shared-refused content e = then-refused (require (leb least-workspace (l .workspace)) workspace-short 0) (length-test (o .size)) _ e
 
-  pub shared-broken : (records : Result (List Record)) {m p : ℕ} → lengths-test (l .workspace) (o .size) ≡ ok tt → records ≡ refused m p →
-      shared l o records own ≡ refused m p
-  shared-broken records e r = then-passed (require (leb least-workspace (l .workspace)) workspace-short 0) (length-test (o .size)) _ e ∙ ap
-      (λ x. x >>= λ rs. signature (l .sig) >>= λ Σ. require (operations-test Σ (l .n)) bad-number 0 >> own (view l o rs Σ)) r
+  pub shared-broken : (content : Result Content) {m p : ℕ} → lengths-test (l .workspace) (o .size) ≡ ok tt → content ≡ refused m p →
+      shared l o content own ≡ refused m p
+  shared-broken content e r = then-passed (require (leb least-workspace (l .workspace)) workspace-short 0) (length-test (o .size)) _ e ∙ ap
+      (λ x. x >>= λ c. signature (l .sig) >>= λ Σ. require (operations-test Σ (l .n)) bad-number 0 >> own (view l o c Σ)) r
 
-  pub shared-signed : (records : Result (List Record)) (rs : List Record) → lengths-test (l .workspace) (o .size) ≡ ok tt → records ≡
-      ok rs → shared l o records own ≡ (signed (l .sig) (l .n) >>= λ Σ. own (view l o rs Σ))
+  pub shared-signed : (content : Result Content) (c : Content) → lengths-test (l .workspace) (o .size) ≡ ok tt → content ≡
+      ok c → shared l o content own ≡ (signed (l .sig) (l .n) >>= λ Σ. own (view l o c Σ))
   unfolding rest
-  shared-signed records rs e r = then-passed (require (leb least-workspace (l .workspace)) workspace-short 0) (length-test (o .size)) _ e
-      ∙ ap (λ x. x >>= λ rs. signature (l .sig) >>= λ Σ. require (operations-test Σ (l .n)) bad-number 0 >> own (view l o rs Σ)) r ∙ signed-then rs
+  shared-signed content c e r = then-passed (require (leb least-workspace (l .workspace)) workspace-short 0) (length-test (o .size)) _ e
+      ∙ ap (λ x. x >>= λ c. signature (l .sig) >>= λ Σ. require (operations-test Σ (l .n)) bad-number 0 >> own (view l o c Σ)) r ∙ signed-then c
 
 -- an accepted number of operations is not too large
 few-operations : (sig : List ℕ) (n : ℕ) (Σ : List Term) → signed sig n ≡ ok Σ → n ≤ most-operations
@@ -178,13 +179,13 @@ bind-bind (ok x) f g = refl
 bind-bind (refused m p) f g = refl
 
 -- the shared tests found what the table and the answer say
-module _ (l : Lent) (t : Outline) (rs : List Record) (table : List ℕ) (r : Ready) (L : Lengths (l .workspace) (t .size)) (S : SignedAs (l .sig) (l .n) table r)
-    (o : Result View) (h : o ≡ (signed (l .sig) (l .n) >>= λ Σ. ok (view l t rs Σ))) where
+module _ (l : Lent) (t : Outline) (c : Content) (table : List ℕ) (r : Ready) (L : Lengths (l .workspace) (t .size)) (S : SignedAs (l .sig) (l .n) table r)
+    (o : Result View) (h : o ≡ (signed (l .sig) (l .n) >>= λ Σ. ok (view l t c Σ))) where
   lent-answer : ready-answer r ≡ constants-found o
   lent-answer = S .answer ∙ sym (ap constants-found h ∙ bind-bind (signed (l .sig) (l .n)) _ _)
 
-  lent-so : (v : View) → o ≡ ok v → LentSo l t rs table v
-  lent-so v e = bound (signed (l .sig) (l .n)) _ (sym h ∙ e) λ Σ s w. subst (LentSo l t rs table) (ok-inj w) (record {
+  lent-so : (v : View) → o ≡ ok v → LentSo l t c table v
+  lent-so v e = bound (signed (l .sig) (l .n)) _ (sym h ∙ e) λ Σ s w. subst (LentSo l t c table) (ok-inj w) (record {
     is = refl;
     constants = S .constants Σ s;
     workspace = L .workspace-fits;
@@ -196,16 +197,16 @@ module _ (l : Lent) (t : Outline) (rs : List Record) (table : List ℕ) (r : Rea
 module _ (l : Lent) (len : ℕ) (table : List ℕ) where
   pub opened-refused : (number : ℕ) → number ≡ number-of (lengths-test (l .workspace) len) → (number ≡ 0 → ⊥) → OpenedAs l len table (ReadyRefused number 0)
   opened-refused number e n =
-      let h = shared-refused l (fresh-outline len) ok (ok []) (lengths-refused (l .workspace) len number e n) in
+      let h = shared-refused l (fresh-outline len) ok (ok (new-content [])) (lengths-refused (l .workspace) len number e n) in
       record { answer = sym (stop _ h); passed = λ v f. absurd (not-ok (sym h ∙ f)) }
 
   pub opened-as : (r : Ready) → Lengths (l .workspace) len → SignedAs (l .sig) (l .n) table r → OpenedAs l len table r
   opened-as r L S =
-      let h = shared-signed l (fresh-outline len) ok (ok []) [] (L .passed) refl in
+      let h = shared-signed l (fresh-outline len) ok (ok (new-content [])) (new-content []) (L .passed) refl in
       record {
-        answer = lent-answer l (fresh-outline len) [] table r L S (prepared-to-open l len) h;
+        answer = lent-answer l (fresh-outline len) (new-content []) table r L S (prepared-to-open l len) h;
         passed =
-            lent-so l (fresh-outline len) [] table r L S (prepared-to-open l len) h;
+            lent-so l (fresh-outline len) (new-content []) table r L S (prepared-to-open l len) h;
       }
 
 module _ (l : Lent) (reg table : List ℕ) where
@@ -215,17 +216,31 @@ module _ (l : Lent) (reg table : List ℕ) where
   pub prepared-refused : (number : ℕ) → number ≡ number-of (lengths-test (l .workspace) (length reg)) → (number ≡ 0 → ⊥) →
       PreparedAs l reg table (ReadyRefused number 0)
   prepared-refused number e n = unprepared number 0
-      (shared-refused l (outline-of reg) ok (register-records reg) (lengths-refused (l .workspace) (length reg) number e n))
+      (shared-refused l (outline-of reg) ok (register-content reg) (lengths-refused (l .workspace) (length reg) number e n))
 
-  module _ (c : Contents) (L : Lengths (l .workspace) (length reg)) (e : contents-answer c ≡ record-count reg) where
-    pub prepared-broken : c ≡ Broken → PreparedAs l reg table (ReadyRefused register-broken 0)
-    prepared-broken q = unprepared register-broken 0 (shared-broken l (outline-of reg) ok (register-records reg) (L .passed) (contents-broken reg c e q))
+  module _ (found : Contents) (L : Lengths (l .workspace) (length reg)) (e : contents-answer found ≡ record-count reg) where
+    pub prepared-broken : found ≡ Broken → PreparedAs l reg table (ReadyRefused register-broken 0)
+    prepared-broken q = unprepared register-broken 0 (shared-broken l (outline-of reg) ok (register-content reg) (L .passed) (contents-broken reg found e q))
 
-    pub prepared-as : (k : ℕ) (r : Ready) → c ≡ Whole k → SignedAs (l .sig) (l .n) table r → PreparedAs l reg table r
+    pub prepared-as : (k : ℕ) (r : Ready) → found ≡ Whole k → SignedAs (l .sig) (l .n) table r → PreparedAs l reg table r
     prepared-as k r q S =
-        let (rs, f, _) = contents-whole reg k c e q in
-        let h = shared-signed l (outline-of reg) ok (register-records reg) rs (L .passed) f in
+        let (c, f, _) = contents-whole reg k found e q in
+        let h = shared-signed l (outline-of reg) ok (register-content reg) c (L .passed) f in
         record {
-          answer = lent-answer l (outline-of reg) rs table r L S (prepared l reg) h;
-          passed = λ v g. record { rs = rs; reads = f; lent-so = lent-so l (outline-of reg) rs table r L S (prepared l reg) h v g };
+          answer = lent-answer l (outline-of reg) c table r L S (prepared l reg) h;
+          passed = λ v g. record { content = c; reads = f; lent-so = lent-so l (outline-of reg) c table r L S (prepared l reg) h v g };
         }
+
+-- ---- a statement's own numbers
+
+module _ (st : Statement) where
+  pub principal-over : payloads ≤ st .principal → false ≡ statement-test st
+  principal-over h = rw (le-ltb (st .principal) payloads h) refl
+
+  pub days-decide : st .principal < payloads → leb (st .first) (st .last) ≡ statement-test st
+  days-decide h = rw (lt-ltb (st .principal) payloads h) refl
+
+-- ---- the latest day
+
+pub latest-read : (reg : List ℕ) (c : Content) → register-content reg ≡ ok c → latest reg ≡ c .latest
+latest-read reg c e = ap latest (unbroken-right reg c .0 e .words)

@@ -10,8 +10,8 @@ use Rattle.logic.specs.Result.{Result, ok, refused, _>>=_, _>>_, require}
 use Rattle.logic.specs.Term.{Term}
 use Rattle.logic.specs.SignatureList.{signature, operations-test}
 use Rattle.typing.specs.Check.{ConstantsOf}
-use Rattle.register.specs.Records.{Record, header, register-records}
-use Rattle.register.specs.Calls.{Lent, Outline, View, view, length-test, shared, outline-of, fresh-outline, on-register}
+use Rattle.register.specs.Records.{Content, header, register-content}
+use Rattle.register.specs.Calls.{Lent, Outline, View, view, length-test, shared, outline-of, fresh-outline, new-content, on-register}
 use Rattle.shared_tests.specs.declared.Ready.{Ready}
 use Rattle.shared_tests.specs.declared.Ready.the-variants.{Constants, Refused}
 
@@ -42,15 +42,15 @@ abbrev pub prepared : Lent → List ℕ → Result View
 prepared l reg = on-register l reg ok
 
 abbrev pub prepared-to-open : Lent → (len : ℕ) → Result View
-prepared-to-open l len = shared l (fresh-outline len) (ok []) ok
+prepared-to-open l len = shared l (fresh-outline len) (ok (new-content [])) ok
 
 -- how many constants they find
 abbrev pub constants-found : Result View → Result ℕ
 constants-found o = o >>= λ v. ok (length (v .Σ))
 
 -- the tests passed
-pub record LentSo (l : Lent) (o : Outline) (rs : List Record) (table : List ℕ) (v : View) : Type 0 where
-  pub is : v ≡ view l o rs (v .Σ)
+pub record LentSo (l : Lent) (o : Outline) (c : Content) (table : List ℕ) (v : View) : Type 0 where
+  pub is : v ≡ view l o c (v .Σ)
   pub constants : ConstantsOf (l .sig) (take (length (v .Σ)) table) (v .Σ)
   pub workspace : least-workspace ≤ l .workspace
   pub not-shorter : header ≤ o .size
@@ -59,9 +59,9 @@ pub record LentSo (l : Lent) (o : Outline) (rs : List Record) (table : List ℕ)
 
 -- on a register
 pub record RegisterSo (l : Lent) (reg table : List ℕ) (v : View) : Type 0 where
-  pub rs : List Record
-  pub reads : register-records reg ≡ ok rs
-  pub lent-so : LentSo l (outline-of reg) rs table v
+  pub content : Content
+  pub reads : register-content reg ≡ ok content
+  pub lent-so : LentSo l (outline-of reg) content table v
 
 -- the answer, and what is so where the tests passed
 pub record PreparedAs (l : Lent) (reg table : List ℕ) (r : Ready) : Type 0 where
@@ -70,4 +70,4 @@ pub record PreparedAs (l : Lent) (reg table : List ℕ) (r : Ready) : Type 0 whe
 
 pub record OpenedAs (l : Lent) (len : ℕ) (table : List ℕ) (r : Ready) : Type 0 where
   pub answer : ready-answer r ≡ constants-found (prepared-to-open l len)
-  pub passed : (v : View) → prepared-to-open l len ≡ ok v → LentSo l (fresh-outline len) [] table v
+  pub passed : (v : View) → prepared-to-open l len ≡ ok v → LentSo l (fresh-outline len) (new-content []) table v

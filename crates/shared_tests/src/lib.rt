@@ -6,17 +6,24 @@ use logic::refusal::BAD_SIGNATURE;
 use logic::refusal::REGISTER_BROKEN;
 use logic::refusal::REGISTER_LENGTH;
 use logic::refusal::WORKSPACE_SHORT;
+use logic::word::PAYLOADS;
 use records::format::HEADER;
+use records::header::read_header;
 use records::walk::Contents;
 use records::walk::walk;
 use signature::list::Listed;
 use signature::list::read_signature;
 use signature::operations::operations;
 ghost use mathlib.Core.Path.{_≡_};
+ghost use mathlib.Core.List.{List};
+ghost use Prim.Native.Nat.{ℕ, _≤_};
+ghost use lib.Dec.{leb};
 ghost use lib.ListN.{length};
 ghost use Rattle.logic.specs.Limits.{most-constants};
 ghost use Rattle.signature.specs.Listing.{SignatureReadable};
 ghost use Rattle.logic.specs.Result.{number-of};
+ghost use Rattle.register.specs.Records.{statement-of, header, latest};
+ghost use Rattle.register.specs.Calls.{statement-test};
 ghost use Rattle.shared_tests.specs.Shared.{lengths-test, lent-of, SignedAs, PreparedAs, OpenedAs};
 
 // How many constants the signature has; or a test refuses.
@@ -64,6 +71,25 @@ fn lengths(workspace: usize, register: usize) -> u32
         return REGISTER_LENGTH;
     }
     0
+}
+
+// Test 5 of a statement's own numbers, in say and in open: "A first day after the last is 5".
+pub fn good_statement(principal: u32, first: u32, last: u32) -> bool
+    ensures { λ r. ⌜ ((words : List ℕ) → r ≡ statement-test (statement-of principal first last words)) ⌝ }
+{
+    if PAYLOADS <= principal {
+        return false;
+    }
+    first <= last
+}
+
+// Test 23, of say and request: whether the day is not before the latest.
+pub fn in_time(register: &[u32], day: u32) -> bool
+    requires { ⌜ header ≤ length (now register) ⌝ }
+    ensures { λ r. ⌜ r ≡ leb (latest (now (register .entry))) day ⌝ }
+{
+    let header = read_header(register);
+    header.latest <= day
 }
 
 // Tests 1, 2, 4 and 5, for open.

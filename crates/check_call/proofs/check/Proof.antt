@@ -22,8 +22,8 @@ slice-aggregate-result : tie.Need-slice-aggregate-result
 slice-aggregate-result c =
     let at-judge = before-ws (c .before .before .before .before .before) in
     sym
-    (length-take-le (c .before .before .judged .given .0 .0) (at-judge .judge .last .1 .1 .1 .1 .0)
-    (words-within _ _ (at-judge .judge .last .1 .1 .1 .1 .0) (at-judge .judge .result) (at-judge .judge .ensures) _ _
+    (length-take-le (c .before .before .judged .given .0 .0) (at-judge .judge .last .1 .1 .1 .1 .1 .0)
+    (words-within _ _ (at-judge .judge .last .1 .1 .1 .1 .1 .0) (at-judge .judge .result) (at-judge .judge .ensures) _ _
     (c .before .before .judged .given .1)))
 
 enum-known-judged-2 : tie.Need-enum-known-judged-2
@@ -35,12 +35,12 @@ slice-aggregate-result-2 c = search needs
 returns : tie.Need-returns
 returns c =
     let at-judge = before-ws (c .before .before .before .before .before) in
-    handed-type _ _ (at-judge .judge .last .1 .1 .1 .1 .0) (at-judge .judge .result) (at-judge .judge .ensures) _ _ (c .before .before .judged .given .1)
+    handed-type _ _ (at-judge .judge .last .1 .1 .1 .1 .1 .0) (at-judge .judge .result) (at-judge .judge .ensures) _ _ (c .before .before .judged .given .1)
 
 returns-2 : tie.Need-returns-2
 returns-2 c =
     let at-judge = before-ws (c .before .before .before .before .before) in
-    handed-nothing _ _ (at-judge .judge .last .1 .1 .1 .1 .0) (at-judge .judge .result) (at-judge .judge .ensures) _ _ (c .before .before .judged2 .given .1)
+    handed-nothing _ _ (at-judge .judge .last .1 .1 .1 .1 .1 .0) (at-judge .judge .result) (at-judge .judge .ensures) _ _ (c .before .before .judged2 .given .1)
 
 pub check-spec : {M : Type 1} → statement M
 check-spec =

@@ -2,10 +2,10 @@
 use mathlib.Core.Path.{sym}
 use lib.Seq.{length-take-le}
 use Rattle.register.specs.Calls.{Lent, check-own}
-use Rattle.records.proofs.Sought.{holds-register, header-there}
+use Rattle.search.proofs.Sought.{reads-register, header-there}
 use Rattle.shared_tests.specs.Shared.{lent-of}
 use Rattle.shared_tests.proofs.OwnTests.{PassedSo, passed-so, TypedSo, table-within}
-use Rattle.check_call.proofs.Checks.{check-not-prepared, check-not-typed, check-type, check-term-found, check-unheld, check-held}
+use Rattle.check_call.proofs.Checks.{check-not-prepared, check-not-typed, check-type, check-term-found, check-missed, check-held}
 use native.Mathlib.Omega.{arith}
 use borrow.Author.Needs.{needs}
 use Rattle.check_call.proofs.judge.Statement.{statement}
@@ -33,20 +33,20 @@ abbrev before-check-term : tie.After-check-term → tie.After-ready2
 before-check-term c = c .before .before .before .before
 
 -- from the search back to the type
-abbrev before-first-unheld : tie.After-first-unheld → tie.After-enum-told
-before-first-unheld c = c .before .before
+abbrev before-first-miss : tie.After-first-miss → tie.After-enum-told
+before-first-miss c = c .before .before
 
 -- the shared tests passed
 passed : (c : tie.After-ready2) →
     let at-prepare = before-ready2 c in
     let at-start = before-table (before-prepare at-prepare) in
     PassedSo (lent-here at-start) (at-start .args .register .now) (at-prepare .prepare .last .1 .1 .1 .0) (at-prepare .prepare .result)
-    (check-own (at-start .args .term .now)) (at-prepare .prepare .ensures) (c .ready2 .given .0 .0)
+    (check-own (at-start .args .day) (at-start .args .term .now)) (at-prepare .prepare .ensures) (c .ready2 .given .0 .0)
 passed c =
     let at-prepare = before-ready2 c in
     let at-start = before-table (before-prepare at-prepare) in
     passed-so (lent-here at-start) (at-start .args .register .now) (at-prepare .prepare .last .1 .1 .1 .0) (at-prepare .prepare .result)
-    (check-own (at-start .args .term .now)) (at-prepare .prepare .ensures) (c .ready2 .given .0 .0) (c .ready2 .given .1)
+    (check-own (at-start .args .day) (at-start .args .term .now)) (at-prepare .prepare .ensures) (c .ready2 .given .0 .0) (c .ready2 .given .1)
 
 -- the term has a type
 typed : (c : tie.After-enum-told) →
@@ -56,7 +56,7 @@ typed : (c : tie.After-enum-told) →
     let at-start = before-table (before-prepare at-prepare) in
     let a = at-start .args in
     TypedSo (passed at-ready2 .Σ) (a .term .now)
-    (check-type (lent-here at-start) (a .register .now) (at-prepare .prepare .last .1 .1 .1 .0) (a .term .now) (at-prepare .prepare .result)
+    (check-type (lent-here at-start) (a .register .now) (at-prepare .prepare .last .1 .1 .1 .0) (a .day) (a .term .now) (at-prepare .prepare .result)
     (at-prepare .prepare .ensures) (at-ready2 .ready2 .given .0 .0) (passed at-ready2) (at-check-term .check-term .last .1 .1 .1 .1 .1 .0)
     (at-check-term .check-term .result) _ _ (at-check-term .check-term .ensures (passed at-ready2 .Σ) (passed at-ready2 .constants))
     (c .enum-told .given .1) .type)
@@ -65,7 +65,8 @@ typed c =
     let at-ready2 = before-check-term at-check-term in
     let at-prepare = before-ready2 at-ready2 in
     let at-start = before-table (before-prepare at-prepare) in
-    check-term-found (lent-here at-start) (at-start .args .register .now) (at-prepare .prepare .last .1 .1 .1 .0) (at-start .args .term .now)
+    check-term-found (lent-here at-start) (at-start .args .register .now) (at-prepare .prepare .last .1 .1 .1 .0)
+    (at-start .args .day) (at-start .args .term .now)
     (at-prepare .prepare .result) (at-prepare .prepare .ensures) (at-ready2 .ready2 .given .0 .0) (passed at-ready2)
     (at-check-term .check-term .last .1 .1 .1 .1 .1 .0) (at-check-term .check-term .result) _ _
     (at-check-term .check-term .ensures (passed at-ready2 .Σ) (passed at-ready2 .constants)) (c .enum-told .given .1)
@@ -129,7 +130,8 @@ returns c =
     let at-prepare = before-ready2 at-ready2 in
     let at-start = before-table (before-prepare at-prepare) in
     let S = passed at-ready2 in
-    check-not-typed (lent-here at-start) (at-start .args .register .now) (at-prepare .prepare .last .1 .1 .1 .0) (at-start .args .term .now)
+    check-not-typed (lent-here at-start) (at-start .args .register .now) (at-prepare .prepare .last .1 .1 .1 .0)
+    (at-start .args .day) (at-start .args .term .now)
     (at-prepare .prepare .result) (at-prepare .prepare .ensures) (at-ready2 .ready2 .given .0 .0) (passed at-ready2) _
     (at-check-term .check-term .result) _ _ (at-check-term .check-term .ensures (S .Σ) (S .constants)) (c .enum-told2 .given .1)
 
@@ -139,19 +141,19 @@ in-register-requires c κs =
     let at-start = before-table (before-prepare (before-ready2 at-ready2)) in
     header-there (at-start .args .register .now) (passed at-ready2 .reads)
 
-first-unheld-requires : tie.Need-first-unheld-requires
-first-unheld-requires c κs =
+first-miss-requires : tie.Need-first-miss-requires
+first-miss-requires c κs =
     let at-told = c .before in
     let at-ready2 = before-check-term (at-told .before .before .before .before) in
     let at-start = before-table (before-prepare (before-ready2 at-ready2)) in
     let S = passed at-ready2 in
     let T = typed at-told in (
-      record { found = S .rs; holds = holds-register (at-start .args .register .now) (c .in-register .ensures) (S .reads) },
+      record { found = S .content .records; reads = reads-register (at-start .args .register .now) (c .in-register .ensures) (S .reads) },
       record { term = T .term; is = T .term-is },
     )
 
-enum-known-unheld : tie.Need-enum-known-unheld
-enum-known-unheld c = search needs
+enum-known-miss : tie.Need-enum-known-miss
+enum-known-miss c = search needs
 
 enum-told-3 : tie.Need-enum-told-3
 enum-told-3 c = search needs
@@ -163,7 +165,8 @@ returns-2 : tie.Need-returns-2
 returns-2 c =
     let at-prepare = before-table2 (c .before .before .before .before .before) in
     let at-start = before-table (before-prepare at-prepare) in
-    check-not-prepared (lent-here at-start) (at-start .args .register .now) (at-prepare .prepare .last .1 .1 .1 .0) (at-start .args .term .now)
+    check-not-prepared (lent-here at-start) (at-start .args .register .now) (at-prepare .prepare .last .1 .1 .1 .0)
+    (at-start .args .day) (at-start .args .term .now)
     (at-prepare .prepare .result) (at-prepare .prepare .ensures) _ _ _ (c .before .ready .given .1)
 
 same-length-3 : tie.Need-same-length-3
@@ -172,19 +175,20 @@ same-length-3 c = search needs
 returns-3 : tie.Need-returns-3
 unfolding typed
 returns-3 c =
-    let at-first-unheld = c .before .before .before in
-    let at-told = before-first-unheld at-first-unheld in
+    let at-first-miss = c .before .before .before in
+    let at-told = before-first-miss at-first-miss in
     let at-check-term = at-told .before .before .before .before in
     let at-ready2 = before-check-term at-check-term in
     let at-prepare = before-ready2 at-ready2 in
     let at-start = before-table (before-prepare at-prepare) in
     let S = passed at-ready2 in
     let T = typed at-told in
-    let held = holds-register (at-start .args .register .now) (at-first-unheld .before .in-register .ensures) (S .reads) in
-    check-unheld (lent-here at-start) (at-start .args .register .now) (at-prepare .prepare .last .1 .1 .1 .0) (at-start .args .term .now)
+    let there = reads-register (at-start .args .register .now) (at-first-miss .before .in-register .ensures) (S .reads) in
+    check-missed (lent-here at-start) (at-start .args .register .now) (at-prepare .prepare .last .1 .1 .1 .0)
+    (at-start .args .day) (at-start .args .term .now)
     (at-prepare .prepare .result) (at-prepare .prepare .ensures) (at-ready2 .ready2 .given .0 .0) (passed at-ready2) _
     (at-check-term .check-term .result) _ _ (at-check-term .check-term .ensures (S .Σ) (S .constants)) (at-told .enum-told .given .1)
-    (at-first-unheld .first-unheld .result) _ (at-first-unheld .first-unheld .ensures (S .rs) (T .term) held (T .term-is)) (c .before .unheld .given .1)
+    (at-first-miss .first-miss .result) _ _ (at-first-miss .first-miss .ensures (S .content .records) (T .term) there (T .term-is)) (c .before .miss .given .1)
 
 same-length-4 : tie.Need-same-length-4
 same-length-4 c = search needs
@@ -192,19 +196,20 @@ same-length-4 c = search needs
 returns-4 : tie.Need-returns-4
 unfolding typed
 returns-4 c =
-    let at-first-unheld = c .before .before in
-    let at-told = before-first-unheld at-first-unheld in
+    let at-first-miss = c .before .before in
+    let at-told = before-first-miss at-first-miss in
     let at-check-term = at-told .before .before .before .before in
     let at-ready2 = before-check-term at-check-term in
     let at-prepare = before-ready2 at-ready2 in
     let at-start = before-table (before-prepare at-prepare) in
     let S = passed at-ready2 in
     let T = typed at-told in
-    let held = holds-register (at-start .args .register .now) (at-first-unheld .before .in-register .ensures) (S .reads) in
-    check-held (lent-here at-start) (at-start .args .register .now) (at-prepare .prepare .last .1 .1 .1 .0) (at-start .args .term .now)
+    let there = reads-register (at-start .args .register .now) (at-first-miss .before .in-register .ensures) (S .reads) in
+    check-held (lent-here at-start) (at-start .args .register .now) (at-prepare .prepare .last .1 .1 .1 .0)
+    (at-start .args .day) (at-start .args .term .now)
     (at-prepare .prepare .result) (at-prepare .prepare .ensures) (at-ready2 .ready2 .given .0 .0) (passed at-ready2) _
     (at-check-term .check-term .result) _ _ (at-check-term .check-term .ensures (S .Σ) (S .constants)) (at-told .enum-told .given .1)
-    (at-first-unheld .first-unheld .result) (at-first-unheld .first-unheld .ensures (S .rs) (T .term) held (T .term-is)) (c .enum-told3 .given .1)
+    (at-first-miss .first-miss .result) (at-first-miss .first-miss .ensures (S .content .records) (T .term) there (T .term-is)) (c .enum-told3 .given .1)
 
 pub judge-spec : {M : Type 1} → statement M
 judge-spec =
@@ -222,8 +227,8 @@ judge-spec =
     same-length
     returns
     in-register-requires
-    first-unheld-requires
-    enum-known-unheld
+    first-miss-requires
+    enum-known-miss
     enum-told-3
     same-length-2
     returns-2

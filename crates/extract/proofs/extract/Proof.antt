@@ -38,7 +38,7 @@ abbrev lent-here : tie.Start → Lent
 lent-here s = lent-of (s .args .sig .now) (s .args .n) (s .args .ws .now)
 
 abbrev asked-for : tie.Start → Ask
-asked-for s = ask-of (s .args .operation) (s .args .extract) (s .args .delivery) (s .args .proof .now)
+asked-for s = ask-of (s .args .operation) (s .args .extract) (s .args .delivery) (s .args .day) (s .args .proof .now)
 
 -- behind the test, the form holds
 in-form : (c : tie.After-request) →

@@ -1,4 +1,4 @@
--- All tests of a request in turn: the shared ones, its numbers, the type of its proof, and those of `proves`.
+-- All tests of a request in turn: the shared ones, its numbers, its day, the type of its proof, and those of `proves`.
 use mathlib.Core.Path.{sym}
 use lib.Seq.{length-take-le}
 use borrow.Author.Tests.{not-true, not-false}
@@ -6,7 +6,7 @@ use Rattle.register.specs.Records.{Ask, ask-of}
 use Rattle.register.specs.Calls.{Lent, request-own}
 use Rattle.shared_tests.specs.Shared.{lent-of}
 use Rattle.shared_tests.proofs.OwnTests.{PassedSo, passed-so, table-within}
-use Rattle.request.proofs.Grants.{request-not-prepared, bad-numbers, in-range-numbers, request-not-typed}
+use Rattle.request.proofs.Grants.{request-not-prepared, bad-numbers, in-range-numbers, request-late, request-not-typed}
 use Rattle.request.proofs.Grants.{request-type, request-term, words-inside, proved}
 use native.Mathlib.Omega.{arith}
 use borrow.Author.Needs.{needs}
@@ -19,7 +19,7 @@ lent-here s = lent-of (s .args .sig .now) (s .args .n) (s .args .ws .now)
 
 -- what is asked
 abbrev asked : tie.Start → Ask
-asked s = ask-of (s .args .operation) (s .args .extract) (s .args .delivery) (s .args .proof .now)
+asked s = ask-of (s .args .operation) (s .args .extract) (s .args .delivery) (s .args .day) (s .args .proof .now)
 
 -- ---- places, from a later one back to an earlier one
 
@@ -38,10 +38,11 @@ before-ready2 c = c .before .before .before .before .before
 abbrev before-numbers : tie.After-numbers → tie.After-ready2
 before-numbers c = c .before .before
 
-abbrev before-else1 : tie.Else1 → tie.After-numbers
-before-else1 c = c .before
+-- from the test of its day back to that of its numbers
+abbrev timed : tie.After-in-time → tie.After-numbers
+timed c = c .before .before
 
-abbrev before-check-term : tie.After-check-term → tie.Else1
+abbrev before-check-term : tie.After-check-term → tie.Else2
 before-check-term c = c .before .before .before
 
 abbrev before-ws2 : tie.After-ws2 → tie.After-check-term
@@ -93,11 +94,30 @@ returns c =
     let S = passed at-ready2 in
     bad-numbers (lent-here at-start) (a .register .now) (at-prepare .prepare .last .1 .1 .1 .0) (asked at-start)
     (at-prepare .prepare .result) (at-prepare .prepare .ensures) (at-ready2 .ready2 .given .0 .0) (passed at-ready2)
-    (at-numbers .numbers .result) (at-numbers .numbers .ensures (a .proof .now)) (not-true _ (c .if1 .taken))
+    (at-numbers .numbers .result) (at-numbers .numbers .ensures (a .day) (a .proof .now)) (not-true _ (c .if1 .taken))
+
+in-time-requires : tie.Need-in-time-requires
+in-time-requires c κs = let S = passed (before-numbers (c .before)) in S .lent-so .not-shorter
+
+same-length-2 : tie.Need-same-length-2
+same-length-2 c = search needs
+
+returns-2 : tie.Need-returns-2
+returns-2 c =
+    let at-day = c .before in
+    let at-numbers = timed at-day in
+    let at-ready2 = before-numbers at-numbers in
+    let at-prepare = before-ready2 at-ready2 in
+    let at-start = before-table (before-prepare at-prepare) in
+    let a = at-start .args in
+    request-late (lent-here at-start) (a .register .now) (at-prepare .prepare .last .1 .1 .1 .0) (asked at-start)
+    (at-prepare .prepare .result) (at-prepare .prepare .ensures) (at-ready2 .ready2 .given .0 .0) (passed at-ready2)
+    (at-numbers .numbers .result) (at-numbers .numbers .ensures (a .day) (a .proof .now)) (not-false _ (at-day .before .if1 .left))
+    (at-day .in-time .result) (at-day .in-time .ensures) (not-true _ (c .if2 .taken))
 
 array-share-prefix-table : tie.Need-array-share-prefix-table
 array-share-prefix-table c =
-    let at-ready2 = before-numbers (before-else1 c) in
+    let at-ready2 = before-numbers (timed (c .before)) in
     let at-prepare = before-ready2 at-ready2 in
     let at-start = before-table (before-prepare at-prepare) in
     let S = passed at-ready2 in
@@ -105,7 +125,7 @@ array-share-prefix-table c =
 
 slice-aggregate-check-term : tie.Need-slice-aggregate-check-term
 slice-aggregate-check-term c =
-    let at-ready2 = before-numbers (before-else1 (c .before)) in
+    let at-ready2 = before-numbers (timed (c .before .before)) in
     let at-prepare = before-ready2 at-ready2 in
     let at-start = before-table (before-prepare at-prepare) in
     let S = passed at-ready2 in
@@ -115,7 +135,7 @@ slice-aggregate-check-term c =
 
 check-term-requires : tie.Need-check-term-requires
 check-term-requires c κs =
-    let at-ready2 = before-numbers (before-else1 (c .before .before)) in
+    let at-ready2 = before-numbers (timed (c .before .before .before)) in
     let at-prepare = before-ready2 at-ready2 in
     let S = passed at-ready2 in
     record {
@@ -135,8 +155,9 @@ enum-known-typed-2 c = search needs
 proves-requires : tie.Need-proves-requires
 proves-requires c κs =
     let at-check-term = before-ws2 (c .before .before .before .before .before) in
-    let at-else1 = before-check-term at-check-term in
-    let at-numbers = before-else1 at-else1 in
+    let at-else2 = before-check-term at-check-term in
+    let at-day = at-else2 .before in
+    let at-numbers = timed at-day in
     let at-ready2 = before-numbers at-numbers in
     let at-prepare = before-ready2 at-ready2 in
     let at-start = before-table (before-prepare at-prepare) in
@@ -144,14 +165,15 @@ proves-requires c κs =
     let S = passed at-ready2 in
     let N = in-range-numbers (lent-here at-start) (a .register .now) (at-prepare .prepare .last .1 .1 .1 .0) (asked at-start)
     (at-prepare .prepare .result) (at-prepare .prepare .ensures) (at-ready2 .ready2 .given .0 .0) (passed at-ready2)
-    (at-numbers .numbers .result) (at-numbers .numbers .ensures (a .proof .now)) (not-false _ (at-else1 .if1 .left)) in
+    (at-numbers .numbers .result) (at-numbers .numbers .ensures (a .day) (a .proof .now)) (not-false _ (at-day .before .if1 .left)) in
     let T = request-term (lent-here at-start) (a .register .now) (at-prepare .prepare .last .1 .1 .1 .0) (asked at-start)
     (at-prepare .prepare .result) (at-prepare .prepare .ensures) (at-ready2 .ready2 .given .0 .0) (passed at-ready2)
-    (at-numbers .numbers .result) (at-numbers .numbers .ensures (a .proof .now)) (not-false _ (at-else1 .if1 .left))
+    (at-numbers .numbers .result) (at-numbers .numbers .ensures (a .day) (a .proof .now)) (not-false _ (at-day .before .if1 .left))
+    (at-day .in-time .result) (at-day .in-time .ensures) (not-false _ (at-else2 .if2 .left))
     (at-check-term .check-term .last .1 .1 .1 .1 .1 .0) (at-check-term .check-term .result) _ _
     (at-check-term .check-term .ensures (S .Σ) (S .constants)) (c .before .before .typed2 .given .1) in
     record {
-      rs = S .rs;
+      content = S .content;
       reads = S .reads;
       term = T .term;
       is = T .term-is;
@@ -159,31 +181,33 @@ proves-requires c κs =
       extract = N .1;
       inside = words-inside (lent-here at-start) (a .register .now) (at-prepare .prepare .last .1 .1 .1 .0) (asked at-start)
           (at-prepare .prepare .result) (at-prepare .prepare .ensures) (at-ready2 .ready2 .given .0 .0) (passed at-ready2)
-          (at-numbers .numbers .result) (at-numbers .numbers .ensures (a .proof .now)) (not-false _ (at-else1 .if1 .left))
+          (at-numbers .numbers .result) (at-numbers .numbers .ensures (a .day) (a .proof .now)) (not-false _ (at-day .before .if1 .left))
+          (at-day .in-time .result) (at-day .in-time .ensures) (not-false _ (at-else2 .if2 .left))
           (at-check-term .check-term .last .1 .1 .1 .1 .1 .0) (at-check-term .check-term .result) _ _
           (at-check-term .check-term .ensures (S .Σ) (S .constants)) (c .before .before .typed2 .given .1);
       short = T .short;
     }
-
-same-length-2 : tie.Need-same-length-2
-same-length-2 c = search needs
-
-returns-2 : tie.Need-returns-2
-returns-2 c =
-    let at-prepare = before-table2 (c .before .before .before .before .before) in
-    let at-start = before-table (before-prepare at-prepare) in
-    let a = at-start .args in
-    request-not-prepared (lent-here at-start) (a .register .now) (at-prepare .prepare .last .1 .1 .1 .0) (asked at-start)
-    (at-prepare .prepare .result) (at-prepare .prepare .ensures) _ _ (c .before .ready .given .1)
 
 same-length-3 : tie.Need-same-length-3
 same-length-3 c = search needs
 
 returns-3 : tie.Need-returns-3
 returns-3 c =
+    let at-prepare = before-table2 (c .before .before .before .before .before) in
+    let at-start = before-table (before-prepare at-prepare) in
+    let a = at-start .args in
+    request-not-prepared (lent-here at-start) (a .register .now) (at-prepare .prepare .last .1 .1 .1 .0) (asked at-start)
+    (at-prepare .prepare .result) (at-prepare .prepare .ensures) _ _ (c .before .ready .given .1)
+
+same-length-4 : tie.Need-same-length-4
+same-length-4 c = search needs
+
+returns-4 : tie.Need-returns-4
+returns-4 c =
     let at-check-term = c .before .before .before .before .before in
-    let at-else1 = before-check-term at-check-term in
-    let at-numbers = before-else1 at-else1 in
+    let at-else2 = before-check-term at-check-term in
+    let at-day = at-else2 .before in
+    let at-numbers = timed at-day in
     let at-ready2 = before-numbers at-numbers in
     let at-prepare = before-ready2 at-ready2 in
     let at-start = before-table (before-prepare at-prepare) in
@@ -191,17 +215,19 @@ returns-3 c =
     let S = passed at-ready2 in
     request-not-typed (lent-here at-start) (a .register .now) (at-prepare .prepare .last .1 .1 .1 .0) (asked at-start)
     (at-prepare .prepare .result) (at-prepare .prepare .ensures) (at-ready2 .ready2 .given .0 .0) (passed at-ready2)
-    (at-numbers .numbers .result) (at-numbers .numbers .ensures (a .proof .now)) (not-false _ (at-else1 .if1 .left)) _ (at-check-term .check-term .result) _ _
+    (at-numbers .numbers .result) (at-numbers .numbers .ensures (a .day) (a .proof .now)) (not-false _ (at-day .before .if1 .left))
+    (at-day .in-time .result) (at-day .in-time .ensures) (not-false _ (at-else2 .if2 .left)) _ (at-check-term .check-term .result) _ _
     (at-check-term .check-term .ensures (S .Σ) (S .constants)) (c .before .typed .given .1)
 
-same-length-4 : tie.Need-same-length-4
-same-length-4 c = search needs
+same-length-5 : tie.Need-same-length-5
+same-length-5 c = search needs
 
-returns-4 : tie.Need-returns-4
-returns-4 c =
+returns-5 : tie.Need-returns-5
+returns-5 c =
     let at-check-term = before-match2-keys2 (c .before .before .before .before) in
-    let at-else1 = before-check-term at-check-term in
-    let at-numbers = before-else1 at-else1 in
+    let at-else2 = before-check-term at-check-term in
+    let at-day = at-else2 .before in
+    let at-numbers = timed at-day in
     let at-ready2 = before-numbers at-numbers in
     let at-prepare = before-ready2 at-ready2 in
     let at-start = before-table (before-prepare at-prepare) in
@@ -209,20 +235,23 @@ returns-4 c =
     let S = passed at-ready2 in
     let A = request-type (lent-here at-start) (a .register .now) (at-prepare .prepare .last .1 .1 .1 .0) (asked at-start)
     (at-prepare .prepare .result) (at-prepare .prepare .ensures) (at-ready2 .ready2 .given .0 .0) (passed at-ready2)
-    (at-numbers .numbers .result) (at-numbers .numbers .ensures (a .proof .now)) (not-false _ (at-else1 .if1 .left))
+    (at-numbers .numbers .result) (at-numbers .numbers .ensures (a .day) (a .proof .now)) (not-false _ (at-day .before .if1 .left))
+    (at-day .in-time .result) (at-day .in-time .ensures) (not-false _ (at-else2 .if2 .left))
     (at-check-term .check-term .last .1 .1 .1 .1 .1 .0) (at-check-term .check-term .result) _ _
     (at-check-term .check-term .ensures (S .Σ) (S .constants)) (c .before .before .before .typed2 .given .1) in
     let T = request-term (lent-here at-start) (a .register .now) (at-prepare .prepare .last .1 .1 .1 .0) (asked at-start)
     (at-prepare .prepare .result) (at-prepare .prepare .ensures) (at-ready2 .ready2 .given .0 .0) (passed at-ready2)
-    (at-numbers .numbers .result) (at-numbers .numbers .ensures (a .proof .now)) (not-false _ (at-else1 .if1 .left))
+    (at-numbers .numbers .result) (at-numbers .numbers .ensures (a .day) (a .proof .now)) (not-false _ (at-day .before .if1 .left))
+    (at-day .in-time .result) (at-day .in-time .ensures) (not-false _ (at-else2 .if2 .left))
     (at-check-term .check-term .last .1 .1 .1 .1 .1 .0) (at-check-term .check-term .result) _ _
     (at-check-term .check-term .ensures (S .Σ) (S .constants)) (c .before .before .before .typed2 .given .1) in
     proved (lent-here at-start) (a .register .now) (at-prepare .prepare .last .1 .1 .1 .0) (asked at-start)
     (at-prepare .prepare .result) (at-prepare .prepare .ensures) (at-ready2 .ready2 .given .0 .0) (passed at-ready2) (at-numbers .numbers .result)
-    (at-numbers .numbers .ensures (a .proof .now)) (not-false _ (at-else1 .if1 .left)) (at-check-term .check-term .last .1 .1 .1 .1 .1 .0)
+    (at-numbers .numbers .ensures (a .day) (a .proof .now)) (not-false _ (at-day .before .if1 .left))
+    (at-day .in-time .result) (at-day .in-time .ensures) (not-false _ (at-else2 .if2 .left)) (at-check-term .check-term .last .1 .1 .1 .1 .1 .0)
     (at-check-term .check-term .result) _ _ (at-check-term .check-term .ensures (S .Σ) (S .constants)) (c .before .before .before .typed2 .given .1)
     (c .proves .result)
-    (c .proves .ensures (lent-here at-start) (S .Σ) (S .rs) (a .delivery) (T .term) (A .type) (S .reads) (T .term-is) (A .front) (A .words-are))
+    (c .proves .ensures (lent-here at-start) (S .Σ) (S .content) (a .delivery) (T .term) (A .type) (S .reads) (T .term-is) (A .front) (A .words-are))
 
 pub grantable-spec : {M : Type 1} → statement M
 grantable-spec =
@@ -235,15 +264,18 @@ grantable-spec =
     numbers-requires
     same-length
     returns
+    in-time-requires
+    same-length-2
+    returns-2
     array-share-prefix-table
     slice-aggregate-check-term
     check-term-requires
     enum-known-typed
     enum-known-typed-2
     proves-requires
-    same-length-2
-    returns-2
     same-length-3
     returns-3
     same-length-4
-    returns-4)
+    returns-4
+    same-length-5
+    returns-5)

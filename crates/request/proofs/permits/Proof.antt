@@ -34,8 +34,8 @@ unfolding encode
 returns c =
     let s = c .before .before .before .before in
     let a = s .args in
-    λ A delivery proof T e.
-    permission-found (a .ws .now) _ (a .n) (ask-of (a .operation) (a .extract) delivery proof) (c .same .result) (s .pre .1) (s .pre .2)
+    λ A delivery day proof T e.
+    permission-found (a .ws .now) _ (a .n) (ask-of (a .operation) (a .extract) delivery day proof) (c .same .result) (s .pre .1) (s .pre .2)
     refl (c .same .ensures) A T e
 
 pub permits-spec : {M : Type 1} → statement M

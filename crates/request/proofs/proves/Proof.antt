@@ -6,10 +6,10 @@ use lib.ListN.{length}
 use borrow.Author.Tests.{not-true, not-false}
 use borrow.Author.Needs.{needs}
 use Rattle.register.specs.Records.{Ask, ask-of, used}
-use Rattle.records.specs.declared.view.View.{View}
+use Rattle.search.specs.declared.view.View.{View}
 use Rattle.records.proofs.Items.{records-there}
-use Rattle.records.proofs.Sought.{holds-view, header-there}
-use Rattle.request.proofs.Grants.{request-another, request-unheld, request-full, request-enough}
+use Rattle.search.proofs.Sought.{reads-view, header-there}
+use Rattle.request.proofs.Grants.{request-another, request-missed, request-full, request-enough}
 use Rattle.request.proofs.proves.Statement.{statement}
 use Rattle.request.proofs.proves.Tie as tie
 
@@ -22,13 +22,13 @@ start c = c .before .before .before .before
 abbrev permitted : tie.After-view-of → tie.After-permits
 permitted c = c .before .before
 
-abbrev viewed : tie.After-first-unheld → tie.After-view-of
+abbrev viewed : tie.After-first-miss → tie.After-view-of
 viewed c = c .before
 
 -- ---- what holds there
 
 abbrev asked : tie.Start → ℕ → Ask
-asked s delivery = ask-of (s .args .operation) (s .args .extract) delivery (s .args .proof .now)
+asked s delivery = ask-of (s .args .operation) (s .args .extract) delivery (s .args .day) (s .args .proof .now)
 
 -- the view is the register's
 record Seen (c : tie.After-view-of) : Type 0 where
@@ -43,7 +43,7 @@ seen c =
     record {
       size = ap (λ (v : View). v .size) e;
       used-words = ap (λ (v : View). v .used) e;
-      within = records-there (s .args .register .now) (s .pre .rs) (s .pre .reads) .within;
+      within = records-there (s .args .register .now) (s .pre .content) (s .pre .reads) .within;
     }
 
 -- ---- the needs
@@ -55,23 +55,23 @@ returns : tie.Need-returns
 returns c =
     let p = c .before in
     let s = start p in
-    λ l Σ rs delivery t A g i T e.
-    request-another l Σ rs (s .args .register .now) (asked s delivery) t A (p .permits .result)
-    (p .permits .ensures A delivery (s .args .proof .now) T e) (not-true _ (c .if1 .taken))
+    λ l Σ d delivery t A g i T e.
+    request-another l Σ d (s .args .register .now) (asked s delivery) t A (p .permits .result)
+    (p .permits .ensures A delivery (s .args .day) (s .args .proof .now) T e) (not-true _ (c .if1 .taken))
 
 view-of-requires : tie.Need-view-of-requires
 view-of-requires c κs = let s = start (c .before) in header-there (s .args .register .now) (s .pre .reads)
 
-first-unheld-requires : tie.Need-first-unheld-requires
-first-unheld-requires c κs =
+first-miss-requires : tie.Need-first-miss-requires
+first-miss-requires c κs =
     let s = start (permitted c) in
     let q = s .pre in (
-      record { found = q .rs; holds = holds-view (s .args .register .now) (c .view-of .ensures) (q .reads) },
+      record { found = q .content .records; reads = reads-view (s .args .register .now) (c .view-of .ensures) (q .reads) },
       record { term = q .term; is = q .is },
     )
 
-enum-known-unheld : tie.Need-enum-known-unheld
-enum-known-unheld c = search needs
+enum-known-miss : tie.Need-enum-known-miss
+enum-known-miss c = search needs
 
 returns-2 : tie.Need-returns-2
 returns-2 c =
@@ -79,10 +79,11 @@ returns-2 c =
     let v = viewed f in
     let p = permitted v in
     let s = start p in
-    λ l Σ rs delivery t A g i T e.
-    let k = holds-view (s .args .register .now) (v .view-of .ensures) g in
-    request-unheld l Σ rs (s .args .register .now) (asked s delivery) t A (p .permits .result) (p .permits .ensures A delivery (s .args .proof .now) T e)
-    (not-false _ (v .before .if1 .left)) (f .first-unheld .result) (f .first-unheld .ensures rs t k i) _ (c .before .unheld .given .1)
+    λ l Σ d delivery t A g i T e.
+    let k = reads-view (s .args .register .now) (v .view-of .ensures) g in
+    request-missed l Σ d (s .args .register .now) (asked s delivery) t A (p .permits .result)
+    (p .permits .ensures A delivery (s .args .day) (s .args .proof .now) T e) (not-false _ (v .before .if1 .left))
+    (f .first-miss .result) (f .first-miss .ensures (d .records) t k i) _ _ (c .before .miss .given .1)
 
 enum-told : tie.Need-enum-told
 enum-told c = search needs
@@ -101,10 +102,11 @@ returns-3 c =
     let p = permitted v in
     let s = start p in
     let w = seen v in
-    λ l Σ rs delivery t A g i T e.
-    let k = holds-view (s .args .register .now) (v .view-of .ensures) g in
-    request-full l Σ rs (s .args .register .now) (asked s delivery) t A (p .permits .result) (p .permits .ensures A delivery (s .args .proof .now) T e)
-    (not-false _ (v .before .if1 .left)) (f .first-unheld .result) (f .first-unheld .ensures rs t k i) (n .enum-told .given .1)
+    λ l Σ d delivery t A g i T e.
+    let k = reads-view (s .args .register .now) (v .view-of .ensures) g in
+    request-full l Σ d (s .args .register .now) (asked s delivery) t A (p .permits .result)
+    (p .permits .ensures A delivery (s .args .day) (s .args .proof .now) T e) (not-false _ (v .before .if1 .left))
+    (f .first-miss .result) (f .first-miss .ensures (d .records) t k i) (n .enum-told .given .1)
     (omega (arith, c .if2 .taken, w .size, w .used-words))
 
 returns-4 : tie.Need-returns-4
@@ -115,10 +117,11 @@ returns-4 c =
     let p = permitted v in
     let s = start p in
     let w = seen v in
-    λ l Σ rs delivery t A g i T e.
-    let k = holds-view (s .args .register .now) (v .view-of .ensures) g in
-    request-enough l Σ rs (s .args .register .now) (asked s delivery) t A (p .permits .result) (p .permits .ensures A delivery (s .args .proof .now) T e)
-    (not-false _ (v .before .if1 .left)) (f .first-unheld .result) (f .first-unheld .ensures rs t k i) (n .enum-told .given .1) (w .within)
+    λ l Σ d delivery t A g i T e.
+    let k = reads-view (s .args .register .now) (v .view-of .ensures) g in
+    request-enough l Σ d (s .args .register .now) (asked s delivery) t A (p .permits .result)
+    (p .permits .ensures A delivery (s .args .day) (s .args .proof .now) T e) (not-false _ (v .before .if1 .left))
+    (f .first-miss .result) (f .first-miss .ensures (d .records) t k i) (n .enum-told .given .1) (w .within)
     (omega (arith, c .if2 .left, w .size, w .used-words))
 
 pub proves-spec : {M : Type 1} → statement M
@@ -128,8 +131,8 @@ proves-spec =
     permits-requires
     returns
     view-of-requires
-    first-unheld-requires
-    enum-known-unheld
+    first-miss-requires
+    enum-known-miss
     returns-2
     enum-told
     sub-if2

@@ -14,7 +14,7 @@ lent-here s = lent-of (s .args .sig .now) (s .args .n) (s .args .ws .now)
 
 -- what is asked
 abbrev asked : tie.Start → Ask
-asked s = ask-of (s .args .operation) (s .args .extract) (s .args .delivery) (s .args .proof .now)
+asked s = ask-of (s .args .operation) (s .args .extract) (s .args .delivery) (s .args .day) (s .args .proof .now)
 
 grantable-requires : tie.Need-grantable-requires
 grantable-requires c κs = search needs

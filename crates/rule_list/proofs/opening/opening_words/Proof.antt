@@ -2,15 +2,14 @@
 -- words that are left.
 use Prim.Native.Nat.{_+_, _-_, _≤_}
 use mathlib.Core.Path.{_≡_, sym, _∙_}
-use mathlib.Core.Bool.{Bool}
 use mathlib.Core.List.{[]}
 use native.Mathlib.Omega.{arith}
 use lib.ListN.{length}
 use borrow.Author.Tests.{not-true, not-false}
-use Rattle.register.specs.Records.{length-word, held}
+use Rattle.register.specs.Records.{rule-length-word, statements, states}
 use Rattle.register.specs.History.{each-once}
-use Rattle.records.proofs.Sought.{holds-rules}
-use Rattle.rule_list.proofs.RuleList.{Turn, turn, rule-at, Counting, counting-start, counting-held, counting-added, counting-end}
+use Rattle.search.proofs.Sought.{reads-rules}
+use Rattle.rule_list.proofs.RuleList.{Turn, turn, rule-at, Counting, counting-start, counting-repeated, counting-added, counting-end}
 use borrow.Author.Needs.{needs}
 use Rattle.rule_list.proofs.opening.opening_words.Statement.{statement}
 use Rattle.rule_list.proofs.opening.opening_words.Tie as tie
@@ -26,9 +25,12 @@ abbrev μ-loop : tie.MeasureT-loop
 abbrev start : tie.At-loop Inv-loop μ-loop → tie.Start Inv-loop μ-loop
 start c = c .before .before
 
--- from the search for a rule back to its turn
-abbrev turning : tie.After-is-held Inv-loop μ-loop → tie.In-loop Inv-loop μ-loop
-turning c = c .before .before .before .before .before
+-- from the search for a rule back to its source, and to its turn
+abbrev sourced : tie.After-stands Inv-loop μ-loop → tie.After-rules-before Inv-loop μ-loop
+sourced c = c .before .before .before .before .before
+
+abbrev turning : tie.After-stands Inv-loop μ-loop → tie.In-loop Inv-loop μ-loop
+turning c = sourced c .before .before
 
 -- ---- what holds there
 
@@ -37,16 +39,15 @@ here : (c : tie.In-loop Inv-loop μ-loop) → Turn (start (c .before) .args .rul
 here c = let l = c .before .loop in turn (start (c .before) .args .rules .now) (l .at) (l .inv .1 .place) (c .loop-test .taken)
 
 -- what the search tells
-told : (c : tie.After-is-held Inv-loop μ-loop) →
+told : (c : tie.After-stands Inv-loop μ-loop) →
     let l = turning c .before .loop in
-    let st = rule-at (start (turning c .before) .args .rules .now) (l .at) in
-    c .is-held .result ≡ held (each-once [] (l .inv .1 .place .before)) (st .principal) (st .words)
+    c .stands .result ≡ states (statements (each-once [] (l .inv .1 .place .before))) (rule-at (start (turning c .before) .args .rules .now) (l .at))
 told c =
     let l = turning c .before .loop in
     let p = l .inv .1 .place in
-    let source = c .before .before .before in
-    c .is-held .ensures (each-once [] (p .before))
-    (holds-rules (start (turning c .before) .args .rules .now) (l .at) (p .before) (source .rules-before .ensures) (p .front))
+    let source = c .before .before .before .before .before in
+    c .stands .ensures (each-once [] (p .before))
+    (reads-rules (start (turning c .before) .args .rules .now) (l .at) (p .before) (source .rules-before .ensures) (p .front))
 
 loop-holds : tie.Need-loop-holds Inv-loop μ-loop
 loop-holds c = (omega arith, counting-start (c .before .args .rules .now) (c .before .pre))
@@ -61,7 +62,7 @@ shared-slice-read-n : tie.Need-shared-slice-read-n Inv-loop μ-loop
 shared-slice-read-n c = let t = here (c .before) in omega (arith, t .fits, t .low)
 
 cast-n : tie.Need-cast-n Inv-loop μ-loop
-cast-n c = omega (arith, c .shared-slice-known2 .given (c .before .before .loop .at + length-word))
+cast-n c = omega (arith, c .shared-slice-known2 .given (c .before .before .loop .at + rule-length-word))
 
 add-start : tie.Need-add-start Inv-loop μ-loop
 add-start c = let t = here (c .before) in omega (arith, t .fits)
@@ -72,32 +73,53 @@ add-end c = let t = here (c .before) in omega (arith, t .fits)
 rules-before-requires : tie.Need-rules-before-requires Inv-loop μ-loop
 rules-before-requires c κs = search needs
 
-mul-is-held : tie.Need-mul-is-held Inv-loop μ-loop
-mul-is-held c = let t = here (c .before .before) in omega (arith, t .fits)
+add-stands : tie.Need-add-stands Inv-loop μ-loop
+add-stands c = let t = here (c .before .before) in omega (arith, t .fits)
 
-shared-slice-read-is-held : tie.Need-shared-slice-read-is-held Inv-loop μ-loop
-shared-slice-read-is-held c = let t = here (c .before .before .before) in omega (arith, t .fits)
+mul-stands : tie.Need-mul-stands Inv-loop μ-loop
+mul-stands c = let t = here (c .before .before) in omega (arith, t .fits)
 
-mul-is-held-2 : tie.Need-mul-is-held-2 Inv-loop μ-loop
-mul-is-held-2 c = let t = here (c .before .before .before) in omega (arith, t .fits)
+shared-slice-read-stands : tie.Need-shared-slice-read-stands Inv-loop μ-loop
+shared-slice-read-stands c = let t = here (c .before .before .before) in omega (arith, t .fits)
 
-sub-is-held : tie.Need-sub-is-held Inv-loop μ-loop
-sub-is-held c = search needs
+add-stands-2 : tie.Need-add-stands-2 Inv-loop μ-loop
+add-stands-2 c = let t = here (c .before .before .before) in omega (arith, t .fits)
 
-part-is-held-start : tie.Need-part-is-held-start Inv-loop μ-loop
-part-is-held-start c = search needs
+mul-stands-2 : tie.Need-mul-stands-2 Inv-loop μ-loop
+mul-stands-2 c = let t = here (c .before .before .before) in omega (arith, t .fits)
 
-part-is-held-end : tie.Need-part-is-held-end Inv-loop μ-loop
-part-is-held-end c = let t = here (c .before .before .before) in omega (arith, t .fits)
+shared-slice-read-stands-2 : tie.Need-shared-slice-read-stands-2 Inv-loop μ-loop
+shared-slice-read-stands-2 c = let t = here (c .before .before .before .before) in omega (arith, t .fits)
 
-is-held-requires : tie.Need-is-held-requires Inv-loop μ-loop
-is-held-requires c κs =
-    let s = c .before .before in
+add-stands-3 : tie.Need-add-stands-3 Inv-loop μ-loop
+add-stands-3 c = let t = here (c .before .before .before .before) in omega (arith, t .fits)
+
+mul-stands-3 : tie.Need-mul-stands-3 Inv-loop μ-loop
+mul-stands-3 c = let t = here (c .before .before .before .before) in omega (arith, t .fits)
+
+shared-slice-read-stands-3 : tie.Need-shared-slice-read-stands-3 Inv-loop μ-loop
+shared-slice-read-stands-3 c = let t = here (c .before .before .before .before .before) in omega (arith, t .fits)
+
+mul-stands-4 : tie.Need-mul-stands-4 Inv-loop μ-loop
+mul-stands-4 c = let t = here (c .before .before .before .before .before) in omega (arith, t .fits)
+
+sub-stands : tie.Need-sub-stands Inv-loop μ-loop
+sub-stands c = search needs
+
+part-stands-start : tie.Need-part-stands-start Inv-loop μ-loop
+part-stands-start c = search needs
+
+part-stands-end : tie.Need-part-stands-end Inv-loop μ-loop
+part-stands-end c = let t = here (c .before .before .before .before .before) in omega (arith, t .fits)
+
+stands-requires : tie.Need-stands-requires Inv-loop μ-loop
+stands-requires c κs =
+    let s = c .before .before .before .before in
     let l = s .before .before .before .loop in
     let p = l .inv .1 .place in
     record {
       found = each-once [] (p .before);
-      holds = holds-rules (start (s .before .before .before) .args .rules .now) (l .at) (p .before) (s .rules-before .ensures) (p .front);
+      reads = reads-rules (start (s .before .before .before) .args .rules .now) (l .at) (p .before) (s .rules-before .ensures) (p .front);
     }
 
 add-total : tie.Need-add-total Inv-loop μ-loop
@@ -134,7 +156,7 @@ loop-again-2 c =
     let w = turning (c .before) in
     let l = w .before .loop in (
       here w .fits,
-      counting-held (start (w .before) .args .rules .now) (l .at) (l .total) (l .inv .1) (w .loop-test .taken)
+      counting-repeated (start (w .before) .args .rules .now) (l .at) (l .total) (l .inv .1) (w .loop-test .taken)
           (sym (told (c .before)) ∙ not-false _ (c .if1 .left)),
     )
 
@@ -157,13 +179,20 @@ opening-words-spec =
     add-start
     add-end
     rules-before-requires
-    mul-is-held
-    shared-slice-read-is-held
-    mul-is-held-2
-    sub-is-held
-    part-is-held-start
-    part-is-held-end
-    is-held-requires
+    add-stands
+    mul-stands
+    shared-slice-read-stands
+    add-stands-2
+    mul-stands-2
+    shared-slice-read-stands-2
+    add-stands-3
+    mul-stands-3
+    shared-slice-read-stands-3
+    mul-stands-4
+    sub-stands
+    part-stands-start
+    part-stands-end
+    stands-requires
     add-total
     add-total-2
     loop-less
