@@ -1,5 +1,5 @@
-// The words of terms, and document 01's sample: its signature, the desk's rule r, what a3 says and the proof p.
-// For the C programs of host/, bench/ and tests/.
+// The words of terms, and document 01's sample: its signature, the desk's rule r, what a3 says and the proof p, with
+// days. For the C programs of host/, bench/ and tests/.
 #ifndef AURA0_SAMPLE_H
 #define AURA0_SAMPLE_H
 
@@ -30,9 +30,12 @@
 static const uint32_t signature[] = { CONSTANTS };
 enum { OPERATIONS = 1 };
 
+// the first and the last day of the rule and of what a3 says, and the day on which a3 says it and a request is made
+enum { RULE_FIRST = 10, RULE_LAST = 20, SAY_FIRST = 12, SAY_LAST = 18, DAY = 15 };
+
 // the desk's rule, what r signs: Pi S Pi N Pi Says V0 App C2 V1 App C0 V2
 #define RULE PI, S, PI, N, PI, SAYS, V(0), APP, C(2), V(1), APP, C(0), V(2)
-static const uint32_t rules[] = { 0, 13, RULE };
+static const uint32_t rules[] = { 0, RULE_FIRST, RULE_LAST, 13, RULE };
 
 // what a3 says of the extract k, App C2 sk, and for 7 the proof p = Bind r Ret a0 App App App V0 s7 a3 Sign3 App C2 s7
 #define OPENED(k) APP, C(2), TEXT(k)

@@ -1,4 +1,5 @@
-// Document 01's worked register, by the calls of include/aura0.h: prints what each call answers, and lists the records.
+// Document 01's worked register, with days, by the calls of include/aura0.h: prints what each call answers, and lists
+// the records.
 #include <stdio.h>
 #include "sample.h"
 
@@ -7,16 +8,38 @@ static void print(const char *call, uint64_t answer)
     printf("%s: %u at %u\n", call, aura0_number(answer), aura0_place(answer));
 }
 
-// Rule r, a3 says App C2 s7, request 0, 7, 9 with p.
-static void fill(uint32_t *words, size_t length)
+// The calls of a day print it first, and the words used and the latest day behind.
+static void print_on(uint32_t day, const char *call, uint64_t answer, const uint32_t *words)
+{
+    printf("day %u, ", day);
+    print(call, answer);
+    printf("words used %u, latest day %u\n", words[0], words[2]);
+}
+
+// a3 says App C2 s7
+static void say(uint32_t *words, size_t length, uint32_t day)
 {
     uint32_t added;
+    uint64_t answer = aura0_say(LIST(signature), OPERATIONS, words, length, day, 3, SAY_FIRST, SAY_LAST, LIST(proposition),
+                                LIST(workspace), &added);
+    print_on(day, "say", answer, words);
+    printf("added %u\n", added);
+}
+
+// request 0, 7, 9 with p
+static void request(uint32_t *words, size_t length, uint32_t day)
+{
+    print_on(day, "request", aura0_request(LIST(signature), OPERATIONS, words, length, day, 0, 7, 9, LIST(proof), LIST(workspace)),
+             words);
+}
+
+// Rule r, the say and the request.
+static void fill(uint32_t *words, size_t length)
+{
     printf("a register of %zu words\n", length);
     print("open", aura0_open(LIST(signature), OPERATIONS, words, length, LIST(rules), LIST(workspace)));
-    print("say", aura0_say(LIST(signature), OPERATIONS, words, length, 3, LIST(proposition), LIST(workspace), &added));
-    printf("added %u, words used %u\n", added, words[0]);
-    print("request", aura0_request(LIST(signature), OPERATIONS, words, length, 0, 7, 9, LIST(proof), LIST(workspace)));
-    printf("words used %u\n", words[0]);
+    say(words, length, DAY);
+    request(words, length, DAY);
 }
 
 // The same request by the extract desk: a list of three homes, of which one has a survey, and an output of two words
@@ -25,19 +48,22 @@ static void extract(uint32_t *words, size_t length, size_t output_words)
 {
     static const uint32_t homes[] = { 11, 12, 15 }, surveys[] = { 12, 4, 14, 9 };
     uint32_t output[6] = { 0 };
-    print("extract", aura0_extract(LIST(signature), OPERATIONS, words, length, 0, 7, 9, LIST(proof),
-                                   LIST(homes), LIST(surveys), output, output_words, LIST(workspace)));
-    printf("words used %u, homes", words[0]);
+    uint64_t answer = aura0_extract(LIST(signature), OPERATIONS, words, length, DAY, 0, 7, 9, LIST(proof),
+                                    LIST(homes), LIST(surveys), output, output_words, LIST(workspace));
+    print_on(DAY, "extract", answer, words);
+    printf("homes");
     for (size_t i = 0; i < 6; i += 2)
         printf(" %u,%u", output[i], output[i + 1]);
     printf("\n");
 }
 
-// The records as the listing program prints them. A grant's body is operation, extract, delivery and proof; its
+// The records as the listing program prints them. Before the proposition a rule and a say have principal, first and
+// last day, and a receipt its principal; before the proof a grant has operation, extract, delivery and day, and its
 // principal is 0.
 static void list(const uint32_t *words, size_t length)
 {
     static const char *const kinds[] = { "", "rule", "say", "grant", "receipt" };
+    static const size_t before[] = { 0, 3, 3, 4, 1 };
     printf("record,kind,principal,words\n");
     for (size_t record = 0;; record++) {
         uint32_t kind;
@@ -47,37 +73,36 @@ static void list(const uint32_t *words, size_t length)
             print("read", answer);
             return;
         }
-        if (kind == AURA0_GRANT)
-            printf("%zu,%s,0,%zu\n", record, kinds[kind], body - 3);
-        else
-            printf("%zu,%s,%u,%zu\n", record, kinds[kind], words[start], body - 1);
+        printf("%zu,%s,%u,%zu\n", record, kinds[kind], kind == AURA0_GRANT ? 0 : words[start], body - before[kind]);
     }
 }
 
 int main(void)
 {
-    static uint32_t words[64], fewer[63], more[104];
-    uint32_t added;
+    static uint32_t words[70], fewer[69], more[111];
     size_t type_words;
 
-    fill(words, 64);
-    print("say again", aura0_say(LIST(signature), OPERATIONS, LIST(words), 3, LIST(proposition), LIST(workspace), &added));
-    printf("added %u\n", added);
-    print("check p", aura0_check(LIST(signature), OPERATIONS, LIST(words), LIST(proof), LIST(workspace)));
-    print("check p", aura0_check_type(LIST(signature), OPERATIONS, LIST(words), LIST(proof), LIST(workspace), &type_words));
+    fill(words, 70);
+    list(words, 70);
+    print("check p", aura0_check(LIST(signature), OPERATIONS, LIST(words), DAY, LIST(proof), LIST(workspace)));
+    print("check p", aura0_check_type(LIST(signature), OPERATIONS, LIST(words), DAY, LIST(proof), LIST(workspace), &type_words));
     printf("type");
     for (size_t i = 0; i < type_words; i++)
         printf(" %08x", workspace[i]);
     printf("\n");
-    list(words, 64);
 
-    fill(fewer, 63);
-    list(fewer, 63);
+    // what a3 says stands there already, and the latest day moves on; then it has lapsed; then a day before the latest
+    say(words, 70, SAY_LAST);
+    request(words, 70, SAY_LAST + 1);
+    request(words, 70, DAY);
 
-    fill(more, 104);
-    extract(more, 104, 5);
-    extract(more, 104, 6);
-    extract(more, 104, 6);
-    list(more, 104);
+    fill(fewer, 69);
+    list(fewer, 69);
+
+    fill(more, 111);
+    extract(more, 111, 5);
+    extract(more, 111, 6);
+    extract(more, 111, 6);
+    list(more, 111);
     return 0;
 }

@@ -17,14 +17,15 @@ extern "C" {
 #endif
 
 // Document 01's refusal numbers, in the order of its table: "Tests run in this order". Beside 11 stand 18 to 20 of
-// document 02, slip 2, "each met where 11 was".
+// document 02, slip 2, "each met where 11 was"; behind 5 and beside 14 stand 23 and 22 of its slip 5.
 enum {
     AURA0_WORKSPACE_SHORT = 1,      // workspace short
     AURA0_REGISTER_LENGTH = 2,      // register length
     AURA0_REGISTER_BROKEN = 3,      // register broken
     AURA0_BAD_SIGNATURE = 4,        // signature; place: first bad constant's length word
-    AURA0_BAD_NUMBER = 5,           // n, operation, principal, extract or delivery out of range, or a permit or receipt
-                                    // type wrong or missing
+    AURA0_BAD_NUMBER = 5,           // n, operation, principal, extract or delivery out of range, a permit or receipt
+                                    // type wrong or missing, or a first day after the last
+    AURA0_DAY_BEFORE_LATEST = 23,   // say and request: a day before the register's latest
     AURA0_DESK_SAYS = 15,           // say by principal 0
     AURA0_TERM_LENGTH = 6,          // term empty or too long
     AURA0_MALFORMED = 7,            // malformed; place: first bad word, or the term's length
@@ -37,7 +38,8 @@ enum {
     AURA0_VARIABLE_ESCAPES = 20,    // the variable of a Bind stands in what its body proves
     AURA0_TYPE_TOO_LONG = 12,       // type over 256 words
     AURA0_ANOTHER_PROPOSITION = 13, // another proposition proved
-    AURA0_NOT_HELD = 14,            // signature not held; place: first such Sign
+    AURA0_NOT_HELD = 14,            // signature not held; place: the first Sign with 14 or 22, which decides
+    AURA0_HELD_OUTSIDE = 22,        // signature held only outside the day; in the place of 14
     AURA0_REGISTER_FULL = 16,       // words used and the new entry's together pass the register's length
     AURA0_PAST_LAST_RECORD = 17,    // read past the last record
     // document 02, slip 3: before every test of the table
@@ -59,20 +61,28 @@ enum { AURA0_RULE = 1, AURA0_SAY = 2, AURA0_GRANT = 3, AURA0_RECEIPT = 4 };
 static inline uint32_t aura0_number(uint64_t answer) { return (uint32_t)(answer >> 32); }
 static inline uint32_t aura0_place(uint64_t answer) { return (uint32_t)answer; }
 
-// Writes the register anew with the rules of a rule list, each a principal, a length and a proposition; a refusal of a
-// rule is at its principal's index.
+// Days are numbers of 32 bits. Word 2 of a register is its latest day, 0 after an opening. Each say and request that
+// succeeds sets it to its own day, which may not be before it. A statement holds from its first to its last day, both
+// included, a receipt from its grant's day on; for a call only statements that hold on its day count.
+
+// Writes the register anew with the rules of a rule list, each a principal, a first day, a last day, a length and a
+// proposition; a refusal of a rule is at its principal's index. It has no day: a signature in a rule may be any earlier
+// rule, whatever its days.
 uint64_t aura0_open(const uint32_t *signature, size_t signature_words, uint32_t n, uint32_t *register_, size_t register_words,
                     const uint32_t *rules, size_t rules_words, uint32_t *workspace, size_t workspace_words);
 
-// Adds the principal's statement unless it is held; *added is 1 where it was added, else 0.
+// Adds the principal's statement for the days from first to last, unless it stands there with these days; *added is 1
+// where it was added, else 0. Either way the latest day becomes `day`, which need not be one of the statement's.
 uint64_t aura0_say(const uint32_t *signature, size_t signature_words, uint32_t n, uint32_t *register_, size_t register_words,
-                   uint32_t principal, const uint32_t *proposition, size_t proposition_words,
+                   uint32_t day, uint32_t principal, uint32_t first, uint32_t last,
+                   const uint32_t *proposition, size_t proposition_words,
                    uint32_t *workspace, size_t workspace_words, uint32_t *added);
 
-// Adds a grant and its receipt where the proof is one of Says a0 App C(2 * operation) s(extract).
+// Adds a grant of the day and its receipt where the proof is one of Says a0 App C(2 * operation) s(extract), and sets
+// the latest day.
 uint64_t aura0_request(const uint32_t *signature, size_t signature_words, uint32_t n, uint32_t *register_, size_t register_words,
-                       uint32_t operation, uint32_t extract, uint32_t delivery, const uint32_t *proof, size_t proof_words,
-                       uint32_t *workspace, size_t workspace_words);
+                       uint32_t day, uint32_t operation, uint32_t extract, uint32_t delivery,
+                       const uint32_t *proof, size_t proof_words, uint32_t *workspace, size_t workspace_words);
 
 // The extract desk. The list has at most 1,024 homes, strictly rising. The table has rows of a home and a code, flat,
 // at most 4,096, its homes strictly rising and no code AURA0_NO_SURVEY. The output has at least two words a home.
@@ -80,17 +90,20 @@ uint64_t aura0_request(const uint32_t *signature, size_t signature_words, uint32
 // home of the list, in its order, with its code or AURA0_NO_SURVEY at the front of the output. A refusal leaves
 // register and output as they were.
 uint64_t aura0_extract(const uint32_t *signature, size_t signature_words, uint32_t n, uint32_t *register_, size_t register_words,
-                       uint32_t operation, uint32_t extract, uint32_t delivery, const uint32_t *proof, size_t proof_words,
+                       uint32_t day, uint32_t operation, uint32_t extract, uint32_t delivery,
+                       const uint32_t *proof, size_t proof_words,
                        const uint32_t *homes, size_t homes_words, const uint32_t *surveys, size_t surveys_words,
                        uint32_t *output, size_t output_words, uint32_t *workspace, size_t workspace_words);
 
-// Checks a term against the register, without the type.
+// Checks a term against the register on a day, without the type. The day may be before the latest (no 23), and none is
+// set.
 uint64_t aura0_check(const uint32_t *signature, size_t signature_words, uint32_t n, const uint32_t *register_, size_t register_words,
-                     const uint32_t *term, size_t term_words, uint32_t *workspace, size_t workspace_words);
+                     uint32_t day, const uint32_t *term, size_t term_words, uint32_t *workspace, size_t workspace_words);
 
 // The same; the type is the first *type_words words of the workspace, none where refused.
 uint64_t aura0_check_type(const uint32_t *signature, size_t signature_words, uint32_t n, const uint32_t *register_, size_t register_words,
-                          const uint32_t *term, size_t term_words, uint32_t *workspace, size_t workspace_words, size_t *type_words);
+                          uint32_t day, const uint32_t *term, size_t term_words,
+                          uint32_t *workspace, size_t workspace_words, size_t *type_words);
 
 // Reads a record: its kind, and its body as the *words words of the register from *start on; all three are 0 where
 // refused.

@@ -18,8 +18,9 @@ static const char *const names[CALLS] = {
     "aura0_open", "aura0_say", "aura0_request", "aura0_extract", "aura0_check", "aura0_check_type", "aura0_read"
 };
 
+// room for a signature, a term, or a rule: four words and a statement, which has one word less than a term
 struct list {
-    uint32_t words[MOST_WORDS + 2];
+    uint32_t words[MOST_WORDS + 3];
     size_t length;
 };
 #define LENT(list) (list).words, (list).length
@@ -31,7 +32,7 @@ struct input {
     uint32_t numbers[CALLS];
 };
 
-static uint32_t words[104], homes[HOMES], surveys[2 * ROWS], output[2 * HOMES];
+static uint32_t words[111], homes[HOMES], surveys[2 * ROWS], output[2 * HOMES];
 
 static uint64_t make(enum call call, const struct input *in)
 {
@@ -42,15 +43,15 @@ static uint64_t make(enum call call, const struct input *in)
     case OPEN:
         return aura0_open(STATE, LENT(in->rules), LIST(workspace));
     case SAY:
-        return aura0_say(STATE, 3, LENT(in->statement), LIST(workspace), &one);
+        return aura0_say(STATE, DAY, 3, SAY_FIRST, SAY_LAST, LENT(in->statement), LIST(workspace), &one);
     case REQUEST:
-        return aura0_request(STATE, 0, 7, 9, LENT(in->proof), LIST(workspace));
+        return aura0_request(STATE, DAY, 0, 7, 9, LENT(in->proof), LIST(workspace));
     case EXTRACT:
-        return aura0_extract(STATE, 0, 7, 9, LENT(in->proof), LIST(homes), LIST(surveys), LIST(output), LIST(workspace));
+        return aura0_extract(STATE, DAY, 0, 7, 9, LENT(in->proof), LIST(homes), LIST(surveys), LIST(output), LIST(workspace));
     case CHECK:
-        return aura0_check(STATE, LENT(in->proof), LIST(workspace));
+        return aura0_check(STATE, DAY, LENT(in->proof), LIST(workspace));
     case CHECK_TYPE:
-        return aura0_check_type(STATE, LENT(in->proof), LIST(workspace), &length);
+        return aura0_check_type(STATE, DAY, LENT(in->proof), LIST(workspace), &length);
     default:
         return aura0_read(LIST(words), 5, &one, &start, &length);
     }
@@ -180,12 +181,13 @@ int main(void)
     put_constants(&derivation->signature);
     put_derivation(&derivation->proof, MOST_NESTING);
     put(&sample->proof, LIST(proof));
-    // a statement has a word less and nests one less, for the word Sign; a rule is one behind its principal and length
+    // a statement has a word less and nests one less, for the word Sign; a rule is one behind its principal, days and
+    // length
     put_times(&reading->statement, MOST_WORDS - 1, APP);
     put_derivation(&derivation->statement, MOST_NESTING - 1);
     put(&sample->statement, LIST(proposition));
     for (struct input *in = inputs; in < sample; in++) {
-        PUT(&in->rules, 0, in->statement.length);
+        PUT(&in->rules, 0, RULE_FIRST, RULE_LAST, in->statement.length);
         put(&in->rules, LENT(in->statement));
     }
     put(&sample->rules, LIST(rules));

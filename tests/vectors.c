@@ -2,8 +2,8 @@
 // Makes the calls of the level in force and passes over those of another. Prints a line a file that counts both, and
 // each wrong answer with its file and line. The exit status is 1 where an answer was wrong or a file compared none.
 // After each call it also compares what was lent with what it was before: the signature and the term, the register
-// where it may not change, the register's words past the used count, an output's words past the last home, and the
-// words behind each buffer.
+// where it may not change (where a say adds nothing, only its latest day may), the register's words past the used
+// count, an output's words past the last home, and the words behind each buffer.
 #define _POSIX_C_SOURCE 200809L
 #include <stdarg.h>
 #include <stdio.h>
@@ -12,8 +12,8 @@
 #include <unistd.h>
 #include "../include/aura0.h"
 
-// the level in force: requests 1 to LEVEL of document 02 (request 4 changed no answer, so it has no level)
-enum { LEVEL = 3, MOST = 1 << 21, GUARD = 16, PATTERN = 0x5a5a5a5a };
+// the level in force: requests 1 to LEVEL of document 02 (request 4 changed no answer, so it has no level of its own)
+enum { LEVEL = 5, MOST = 1 << 21, GUARD = 16, PATTERN = 0x5a5a5a5a };
 
 // a lent list of words, with a guard behind it, and what it held before the call
 struct lent {
@@ -160,30 +160,37 @@ static void lend(size_t words, const char *rest)
     keep(&workspace);
 }
 
-// after it; `writes` where the call may change the register
-static void take_back(int writes)
+// what a call may change of the register, and the place of the latest day
+enum changes { NOTHING, LATEST_DAY, RECORDS };
+enum { LATEST = 2 };
+
+// after it
+static void take_back(enum changes changes)
 {
     same_from(&signature, 0, "signature");
     same_from(&term, 0, "term");
     same_from(&workspace, workspace.length, "memory behind the workspace");
-    if (writes && reg.words[0] > reg.length)
+    if (changes == RECORDS && reg.words[0] > reg.length)
         stop("more words used than there are");
-    same_from(&reg, writes ? reg.words[0] : 0, "register");
+    if (changes == LATEST_DAY)
+        reg.before[LATEST] = reg.words[LATEST];
+    same_from(&reg, changes == RECORDS ? reg.words[0] : 0, "register");
 }
 
 #define LENT(list) (list).words, (list).length
 // what every call but a read is lent first
 #define STATE LENT(signature), n, LENT(reg)
 
-// what a request and an extract ask for
+// what a request and an extract ask for, and on which day
 struct ask {
-    uint32_t operation, extract, delivery;
+    uint32_t day, operation, extract, delivery;
 };
-#define ASKED(ask) (ask).operation, (ask).extract, (ask).delivery
+#define ASKED(ask) (ask).day, (ask).operation, (ask).extract, (ask).delivery
 
 static struct ask read_ask(const char **rest)
 {
     struct ask ask;
+    ask.day = read_number(rest, UINT32_MAX);
     ask.operation = read_number(rest, UINT32_MAX);
     ask.extract = read_number(rest, UINT32_MAX);
     ask.delivery = read_number(rest, UINT32_MAX);
@@ -201,21 +208,22 @@ static int call(const char *line)
         size_t words = read_number(&rest, MOST);
         lend(words, rest);
         uint64_t code = aura0_open(STATE, LENT(term), LENT(workspace));
-        take_back(code == 0);
+        take_back(code == 0 ? RECORDS : NOTHING);
         put("open %u %u", aura0_number(code), aura0_place(code));
     } else if ((rest = after(line, "say")) != NULL) {
         size_t words = read_number(&rest, MOST);
-        uint32_t principal = read_number(&rest, UINT32_MAX), added = PATTERN;
+        uint32_t day = read_number(&rest, UINT32_MAX), principal = read_number(&rest, UINT32_MAX);
+        uint32_t first = read_number(&rest, UINT32_MAX), last = read_number(&rest, UINT32_MAX), added = PATTERN;
         lend(words, rest);
-        uint64_t code = aura0_say(STATE, principal, LENT(term), LENT(workspace), &added);
-        take_back(code == 0 && added == 1);
+        uint64_t code = aura0_say(STATE, day, principal, first, last, LENT(term), LENT(workspace), &added);
+        take_back(code != 0 ? NOTHING : added == 1 ? RECORDS : LATEST_DAY);
         put("say %u %u %u", aura0_number(code), aura0_place(code), added);
     } else if ((rest = after(line, "request")) != NULL) {
         size_t words = read_number(&rest, MOST);
         struct ask ask = read_ask(&rest);
         lend(words, rest);
         uint64_t code = aura0_request(STATE, ASKED(ask), LENT(term), LENT(workspace));
-        take_back(code == 0);
+        take_back(code == 0 ? RECORDS : NOTHING);
         put("request %u %u", aura0_number(code), aura0_place(code));
     } else if ((rest = after(line, "extract")) != NULL) {
         size_t words = read_number(&rest, MOST);
@@ -228,7 +236,7 @@ static int call(const char *line)
         keep(&output);
         lend(words, behind_bar(rest));
         uint64_t code = aura0_extract(STATE, ASKED(ask), LENT(term), LENT(homes), LENT(surveys), LENT(output), LENT(workspace));
-        take_back(code == 0);
+        take_back(code == 0 ? RECORDS : NOTHING);
         same_from(&homes, 0, "list of homes");
         same_from(&surveys, 0, "table of surveys");
         size_t result = code == 0 ? 2 * homes.length : 0;
@@ -239,12 +247,13 @@ static int call(const char *line)
         put_words(output.words, result);
     } else if ((rest = after(line, "check")) != NULL) {
         size_t words = read_number(&rest, MOST), type_words = PATTERN;
+        uint32_t day = read_number(&rest, UINT32_MAX);
         lend(words, rest);
-        uint64_t without = aura0_check(STATE, LENT(term), LENT(workspace));
-        take_back(0);
+        uint64_t without = aura0_check(STATE, day, LENT(term), LENT(workspace));
+        take_back(NOTHING);
         lend(words, rest);
-        uint64_t code = aura0_check_type(STATE, LENT(term), LENT(workspace), &type_words);
-        take_back(0);
+        uint64_t code = aura0_check_type(STATE, day, LENT(term), LENT(workspace), &type_words);
+        take_back(NOTHING);
         if (code != without)
             wrong_answer("the same answer with and without the type", "two answers", 11);
         if (type_words > words)
@@ -256,7 +265,7 @@ static int call(const char *line)
         uint32_t kind = PATTERN;
         lend(0, rest);
         uint64_t code = aura0_read(LENT(reg), record, &kind, &start, &words);
-        take_back(0);
+        take_back(NOTHING);
         if (start > reg.length || words > reg.length - start)
             stop("a body past the register");
         put("read %u %u %u", aura0_number(code), aura0_place(code), kind);

@@ -75,34 +75,34 @@ extract-fits l reg k homes surveys room m p h e = let (n, q) = extract-bound l r
 
 -- ---- say
 
-module _ (l : Lent) (old : List ℕ) (st : Statement) (new : List ℕ) (r : Said) (S : SaysAs l old st new r) where
+module _ (l : Lent) (old : List ℕ) (day : ℕ) (st : Statement) (new : List ℕ) (r : Said) (S : SaysAs l old day st new r) where
   abbrev o : Result Bool
-  o = say-call l old st
+  o = say-call l old day st
 
   told : {x : Said} → r ≡ x → said-answer x ≡ o
   told f = sym (ap said-answer f) ∙ S .answer
 
-  pub said-added : r ≡ Added → SaidTo l old st new 1 0
+  pub said-added : r ≡ Added → SaidTo l old day st new 1 0
   said-added f = let e = told f in record { answer = ap code-of e; register = S .register; added-is = ap added-of e }
 
-  pub said-held : r ≡ Held → SaidTo l old st new 0 0
+  pub said-held : r ≡ Held → SaidTo l old day st new 0 0
   said-held f = let e = told f in record { answer = ap code-of e; register = S .register; added-is = ap added-of e }
 
   pub unsaid-is : (m p : ℕ) → r ≡ SaidRefused m p → o ≡ refused m p
   unsaid-is m p f = sym (told f)
 
-  pub said-nothing : (m p : ℕ) → r ≡ SaidRefused m p → (code : ℕ) → code ≡ m * number-unit + p → SaidTo l old st new 0 code
+  pub said-nothing : (m p : ℕ) → r ≡ SaidRefused m p → (code : ℕ) → code ≡ m * number-unit + p → SaidTo l old day st new 0 code
   said-nothing m p f code c = let e = unsaid-is m p f in record { answer = refused-code o m p code e c; register = S .register; added-is = sym (ap added-of e) }
 
-pub say-fits : (l : Lent) (reg : List ℕ) (st : Statement) (m p : ℕ) → length (l .sig) + length (st .words) < place-limit →
-    say-call l reg st ≡ refused m p → Fits m p
-say-fits l reg st m p h e = let (n, b) = say-bound l reg st e in omega arith
+pub say-fits : (l : Lent) (reg : List ℕ) (day : ℕ) (st : Statement) (m p : ℕ) → length (l .sig) + length (st .words) < place-limit →
+    say-call l reg day st ≡ refused m p → Fits m p
+say-fits l reg day st m p h e = let (n, b) = say-bound l reg day st e in omega arith
 
 -- ---- check
 
-pub check-fits : (l : Lent) (reg term : List ℕ) {m p : ℕ} → length (l .sig) + length term < place-limit → m ≡
-    number-of (check-call l reg term) → p ≡ place-of (check-call l reg term) → Fits m p
-check-fits l reg term h e f = handed-fits (check-call l reg term) (length (l .sig) + length term) (λ m p. check-bound l reg term) h e f
+pub check-fits : (l : Lent) (reg : List ℕ) (day : ℕ) (term : List ℕ) {m p : ℕ} → length (l .sig) + length term < place-limit → m ≡
+    number-of (check-call l reg day term) → p ≡ place-of (check-call l reg day term) → Fits m p
+check-fits l reg day term h e f = handed-fits (check-call l reg day term) (length (l .sig) + length term) (λ m p. check-bound l reg day term) h e f
 
 -- a check that leaves the type in the workspace
 module _ (o : Result Term) (end : ℕ) (new : List ℕ) (r : Derivation) (J : Judged o end new r) where

@@ -13,14 +13,14 @@ use Rattle.logic.specs.Refusals.{past-last-record, last-refusal}
 use Rattle.logic.specs.Result.{Result, ok, refused, _>>=_, _>>_, known, number-of}
 use Rattle.logic.proofs.Basics.{clash}
 use Rattle.logic.proofs.Results.{bound, tested, found, both-true}
-use Rattle.register.specs.Records.{Record, record-head, header, words-of, used-by, register-records}
+use Rattle.register.specs.Records.{Record, Content, record-head, header, words-of, used-by, register-content}
 use Rattle.register.specs.Calls.{read-call}
 use Rattle.register.proofs.Bounds.{read-bound}
 use Rattle.register.proofs.Words.{words-append}
-use Rattle.records.specs.Items.{part-from, part-to}
-use Rattle.records.specs.Answers.{RecordsAt}
+use Rattle.records.specs.Items.{RecordsAt}
 use Rattle.read_call.specs.Read.{Among, body-of, kind-of}
-use Rattle.records.proofs.Items.{records-there}
+use Rattle.records.proofs.Items.{record-words, records-there}
+use Rattle.records.proofs.Walks.{body-from, body-to}
 use Rattle.read_call.proofs.ReadAnswers.{Reached, reached-bounds, read-there}
 use Rattle.host.specs.Answers.{number-unit, code-of, start-of, ReadTo}
 
@@ -30,7 +30,7 @@ start-from reg rs at k f g =
     let w : length (words-of rs) ≡ length (words-of (take k rs)) + length (words-of (drop k rs)) =
     ap (λ (l : List Record). length (words-of l)) (sym (take-append-drop k rs)) ∙ ap length (words-append (take k rs) (drop k rs)) ∙
     length-append (words-of (take k rs)) (words-of (drop k rs)) in
-    omega (arith, f .end, g .end)
+    omega (arith, f .end, g .end, ap length (record-words rs), ap length (record-words (drop k rs)))
 
 entry-within : (rs : List Record) (k : ℕ) {r : Record} → known past-last-record 0 (getElem? rs k) ≡ ok r → k < length rs
 entry-within [] zero e = absurd (clash (cc))
@@ -39,8 +39,8 @@ entry-within (x ∷ rs) zero e = omega arith
 entry-within (x ∷ rs) (suc k) e = let h = entry-within rs k e in omega arith
 
 -- where a body starts, by what is read of the record and of all records
-abbrev start-by : ℕ → Result Record → Result (List Record) → ℕ
-start-by k x y = start-of (x >> (y >>= λ rs. ok (used-by (take k rs) + record-head)))
+abbrev start-by : ℕ → Result Record → Result Content → ℕ
+start-by k x y = start-of (x >> (y >>= λ c. ok (used-by (take k (c .records)) + record-head)))
 
 -- a part has its own length
 part-words : (xs : List ℕ) (j : ℕ) → take (length (take j xs)) xs ≡ take j xs
@@ -72,7 +72,7 @@ module _ (reg : List ℕ) (k m : ℕ) (n : m ≡ number-of (read-call reg k)) wh
       record {
         answer = c ∙ sym (ap code-of r);
         kind-is = e;
-        start-is = sym (ap (λ (x : Result Record). start-by k x (register-records reg)) r);
+        start-is = sym (ap (λ (x : Result Record). start-by k x (register-content reg)) r);
         words-are = ap length b;
         body = ap (λ (l : List ℕ). take (length l) reg) z ∙ sym z ∙ b;
       }
@@ -83,10 +83,10 @@ module _ (reg : List ℕ) (k m : ℕ) (n : m ≡ number-of (read-call reg k)) wh
       go : (x : Result Record) → read-call reg k ≡ x → m ≡ number-of x → Present reg k
       go (refused m′ p) e f = let (l, q) = read-bound reg k e in absurd (omega arith)
       go (ok r) e f =
-          tested (leb header (length reg) && leb (length reg) most-register) _ _ _ e λ range e₁. bound (register-records reg) _ e₁ λ rs u e₂.
+          tested (leb header (length reg) && leb (length reg) most-register) _ _ _ e λ range e₁. bound (register-content reg) _ e₁ λ c u e₂.
           let (low, high) = both-true (leb header (length reg)) (leb (length reg) most-register) range in
           record {
-            among = record { found = rs; reads = u; present = entry-within rs k e₂ };
+            among = record { found = c; reads = u; present = entry-within (c .records) k e₂ };
             not-shorter =
                 leb-true header (length reg) low;
             not-longer = leb-true (length reg) most-register high;
@@ -102,13 +102,14 @@ module _ (reg : List ℕ) (k : ℕ) (P : Present reg k) (at : ℕ) (R : Reached 
   read-to kind body e b =
       let A = P .among in
       let r = read-there reg at k (P .not-shorter) (P .not-longer) A R in
-      let s : at ≡ used-by (take k (A .found)) = start-from reg (A .found) at k (records-there reg (A .found) (A .reads)) (R (A .found) (A .reads)) in
-      let j : ℕ = part-to reg at - part-from at in
-      let z : body ≡ take j (drop (part-from at) reg) = b ∙ ap body-of (sym r) in
+      let s : at ≡ used-by (take k (A .found .records)) =
+      start-from reg (A .found .records) at k (records-there reg (A .found) (A .reads)) (R (A .found) (A .reads)) in
+      let j : ℕ = body-to reg at - body-from at in
+      let z : body ≡ take j (drop (body-from at) reg) = b ∙ ap body-of (sym r) in
       record {
         answer = ap code-of r;
         kind-is = e;
         start-is = ap (λ (i : ℕ). i + record-head) s ∙ ap₂ (start-by k) r (sym (A .reads));
         words-are = ap length b;
-        body = ap (λ (l : List ℕ). take (length l) (drop (part-from at) reg)) z ∙ part-words (drop (part-from at) reg) j ∙ sym z ∙ b;
+        body = ap (λ (l : List ℕ). take (length l) (drop (body-from at) reg)) z ∙ part-words (drop (body-from at) reg) j ∙ sym z ∙ b;
       }

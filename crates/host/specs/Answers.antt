@@ -6,7 +6,7 @@ use mathlib.Core.List.{List}
 use lib.ListN.{length, take, drop}
 use Rattle.logic.specs.Result.{Result, ok, refused, _>>=_, _>>_}
 use Rattle.logic.specs.Term.{Term}
-use Rattle.register.specs.Records.{Statement, Ask, record-head, used-by, register-records}
+use Rattle.register.specs.Records.{Statement, Ask, record-head, used-by, register-content}
 use Rattle.register.specs.Calls.{Lent, open-call, after-open, say-call, after-say, request-call, after-request, read-call}
 use Rattle.read_call.specs.Read.{body-of, kind-of}
 use Rattle.typing.specs.Check.{without-value}
@@ -37,10 +37,10 @@ added-of (ok true) = 1
 added-of (ok false) = 0
 added-of (refused m p) = 0
 
-pub record SaidTo (l : Lent) (old : List ℕ) (st : Statement) (new : List ℕ) (added code : ℕ) : Type 0 where
-  pub answer : code ≡ code-of (say-call l old st)
-  pub register : new ≡ after-say (say-call l old st) old st
-  pub added-is : added ≡ added-of (say-call l old st)
+pub record SaidTo (l : Lent) (old : List ℕ) (day : ℕ) (st : Statement) (new : List ℕ) (added code : ℕ) : Type 0 where
+  pub answer : code ≡ code-of (say-call l old day st)
+  pub register : new ≡ after-say (say-call l old day st) old day st
+  pub added-is : added ≡ added-of (say-call l old day st)
 
 -- a request
 pub record RequestedTo (l : Lent) (old : List ℕ) (k : Ask) (new : List ℕ) (code : ℕ) : Type 0 where
@@ -63,8 +63,8 @@ pub record TypedTo (o : Result Term) (workspace : List ℕ) (words code : ℕ) :
 abbrev pub body-start : List ℕ → ℕ → Result ℕ
 body-start reg k = do
   read-call reg k
-  rs ← register-records reg
-  ok (used-by (take k rs) + record-head)
+  c ← register-content reg
+  ok (used-by (take k (c .records)) + record-head)
 
 abbrev pub start-of : Result ℕ → ℕ
 start-of (ok n) = n

@@ -56,15 +56,28 @@ pub extern "C" fn aura0_say(
     signature: &[u32],
     n: u32,
     register: &mut [u32],
+    day: u32,
     principal: u32,
+    first: u32,
+    last: u32,
     proposition: &[u32],
     workspace: &mut [u32],
     added: &mut u32,
 ) -> u64
-    ensures { λ r. ⌜ SaidTo (lent-of (now (signature .entry)) n (now (workspace .entry))) (now (register .entry))
-        (statement-of principal (now (proposition .entry))) (now (register .exit)) (now (added .exit)) r ⌝ }
+    ensures { λ r. ⌜ SaidTo (lent-of (now (signature .entry)) n (now (workspace .entry))) (now (register .entry)) day
+        (statement-of principal first last (now (proposition .entry))) (now (register .exit)) (now (added .exit)) r ⌝ }
 {
-    let said = say(signature, n, register, principal, proposition, workspace);
+    let said = say(
+        signature,
+        n,
+        register,
+        day,
+        principal,
+        first,
+        last,
+        proposition,
+        workspace,
+    );
     match said {
         Said::Added => {
             *added = 1;
@@ -87,6 +100,7 @@ pub extern "C" fn aura0_request(
     signature: &[u32],
     n: u32,
     register: &mut [u32],
+    day: u32,
     operation: u32,
     extract: u32,
     delivery: u32,
@@ -94,12 +108,13 @@ pub extern "C" fn aura0_request(
     workspace: &mut [u32],
 ) -> u64
     ensures { λ r. ⌜ RequestedTo (lent-of (now (signature .entry)) n (now (workspace .entry))) (now (register .entry))
-        (ask-of operation extract delivery (now (proof .entry))) (now (register .exit)) r ⌝ }
+        (ask-of operation extract delivery day (now (proof .entry))) (now (register .exit)) r ⌝ }
 {
     let verdict = request(
         signature,
         n,
         register,
+        day,
         operation,
         extract,
         delivery,
@@ -119,6 +134,7 @@ pub extern "C" fn aura0_extract(
     signature: &[u32],
     n: u32,
     register: &mut [u32],
+    day: u32,
     operation: u32,
     extract: u32,
     delivery: u32,
@@ -129,13 +145,14 @@ pub extern "C" fn aura0_extract(
     workspace: &mut [u32],
 ) -> u64
     ensures { λ r. ⌜ ExtractedTo (lent-of (now (signature .entry)) n (now (workspace .entry))) (now (register .entry))
-        (ask-of operation extract delivery (now (proof .entry))) (now (homes .entry)) (now (surveys .entry))
+        (ask-of operation extract delivery day (now (proof .entry))) (now (homes .entry)) (now (surveys .entry))
         (now (register .exit)) (now (output .entry)) (now (output .exit)) r ⌝ }
 {
     let verdict = extract::extract(
         signature,
         n,
         register,
+        day,
         operation,
         extract,
         delivery,
@@ -157,11 +174,12 @@ pub extern "C" fn aura0_check(
     signature: &[u32],
     n: u32,
     register: &[u32],
+    day: u32,
     term: &[u32],
     workspace: &mut [u32],
 ) -> u64
     ensures { λ r. ⌜ r ≡ code-of (check-call (lent-of (now (signature .entry)) n (now (workspace .entry)))
-        (now (register .entry)) (now (term .entry))) ⌝ }
+        (now (register .entry)) day (now (term .entry))) ⌝ }
 {
     let mut number = 0;
     let mut at = 0;
@@ -169,6 +187,7 @@ pub extern "C" fn aura0_check(
         signature,
         n,
         register,
+        day,
         term,
         workspace,
         &mut number,
@@ -183,14 +202,15 @@ pub extern "C" fn aura0_check_type(
     signature: &[u32],
     n: u32,
     register: &[u32],
+    day: u32,
     term: &[u32],
     workspace: &mut [u32],
     type_words: &mut usize,
 ) -> u64
     ensures { λ r. ⌜ TypedTo (check-call (lent-of (now (signature .entry)) n (now (workspace .entry)))
-        (now (register .entry)) (now (term .entry))) (now (workspace .exit)) (now («type_words» .exit)) r ⌝ }
+        (now (register .entry)) day (now (term .entry))) (now (workspace .exit)) (now («type_words» .exit)) r ⌝ }
 {
-    let judged = judge(signature, n, register, term, workspace);
+    let judged = judge(signature, n, register, day, term, workspace);
     match judged {
         Derivation::Typed { words, end: _ } => {
             *type_words = words;

@@ -1,9 +1,13 @@
 // A call of the register and its line: what the example is, the call, and what it gives.
+use crate::terms::FROM;
 use crate::terms::OPERATIONS;
+use crate::terms::TODAY;
+use crate::terms::UNTIL;
 use crate::terms::signature;
 use logic::limit::LEAST_WORKSPACE;
 use records::format::COUNT;
 use records::format::HEADER;
+use records::format::LATEST;
 use records::format::USED;
 use rules::derivation::Verdict;
 use say::Said;
@@ -56,10 +60,27 @@ pub(crate) fn open_line(example: &[u8], register: &mut [u32], rules: &[u32]) {
     print_verdict(example, b"open", verdict);
 }
 
-pub(crate) fn say_line(example: &[u8], register: &mut [u32], principal: u32, proposition: &[u32]) {
+// A say for the days of the sample, on a day.
+pub(crate) fn say_line_on(
+    example: &[u8],
+    register: &mut [u32],
+    day: u32,
+    principal: u32,
+    proposition: &[u32],
+) {
     let sig = signature();
     let mut ws = [0u32; LEAST_WORKSPACE];
-    let said = say::say(&sig, OPERATIONS, register, principal, proposition, &mut ws);
+    let said = say::say(
+        &sig,
+        OPERATIONS,
+        register,
+        day,
+        principal,
+        FROM,
+        UNTIL,
+        proposition,
+        &mut ws,
+    );
     match said {
         Said::Added => {
             print_answer(example, b"say", 0, 0);
@@ -74,9 +95,14 @@ pub(crate) fn say_line(example: &[u8], register: &mut [u32], principal: u32, pro
     io::write_all(1, b"\n");
 }
 
-pub(crate) fn request_line(
+pub(crate) fn say_line(example: &[u8], register: &mut [u32], principal: u32, proposition: &[u32]) {
+    say_line_on(example, register, TODAY, principal, proposition);
+}
+
+pub(crate) fn request_line_on(
     example: &[u8],
     register: &mut [u32],
+    day: u32,
     operation: u32,
     extract: u32,
     delivery: u32,
@@ -88,6 +114,7 @@ pub(crate) fn request_line(
         &sig,
         OPERATIONS,
         register,
+        day,
         operation,
         extract,
         delivery,
@@ -97,27 +124,51 @@ pub(crate) fn request_line(
     print_verdict(example, b"request", verdict);
 }
 
-// A check with a signature, n and a workspace of its own.
+pub(crate) fn request_line(
+    example: &[u8],
+    register: &mut [u32],
+    operation: u32,
+    extract: u32,
+    delivery: u32,
+    proof: &[u32],
+) {
+    request_line_on(
+        example,
+        register,
+        TODAY,
+        operation,
+        extract,
+        delivery,
+        proof,
+    );
+}
+
+// A check with a signature, n, a day and a workspace of its own.
 pub(crate) fn check_line_with(
     example: &[u8],
     sig: &[u32],
     n: u32,
     register: &[u32],
+    day: u32,
     term: &[u32],
     ws: &mut [u32],
 ) {
     let mut number = 0;
     let mut place = 0;
-    let found = check_call::check(sig, n, register, term, ws, &mut number, &mut place);
+    let found = check_call::check(sig, n, register, day, term, ws, &mut number, &mut place);
     print_answer(example, b"check", number, place);
     print_words(found);
     io::write_all(1, b"\n");
 }
 
-pub(crate) fn check_line(example: &[u8], register: &[u32], term: &[u32]) {
+pub(crate) fn check_line_on(example: &[u8], register: &[u32], day: u32, term: &[u32]) {
     let sig = signature();
     let mut ws = [0u32; LEAST_WORKSPACE];
-    check_line_with(example, &sig, OPERATIONS, register, term, &mut ws);
+    check_line_with(example, &sig, OPERATIONS, register, day, term, &mut ws);
+}
+
+pub(crate) fn check_line(example: &[u8], register: &[u32], term: &[u32]) {
+    check_line_on(example, register, TODAY, term);
 }
 
 // The kind and the body after the answer, and no more than the answer where the read is refused.
@@ -135,7 +186,7 @@ pub(crate) fn read_line(example: &[u8], register: &[u32], record: usize) {
     io::write_all(1, b"\n");
 }
 
-// The counts of a register: its words used and its records.
+// The header of a register: its words used, its records and its latest day.
 pub(crate) fn counts_line(register: &[u32]) {
     if register.len() < HEADER {
         return;
@@ -144,5 +195,7 @@ pub(crate) fn counts_line(register: &[u32]) {
     print_number(register[USED]);
     io::write_all(1, b" records");
     print_number(register[COUNT]);
+    io::write_all(1, b" day");
+    print_number(register[LATEST]);
     io::write_all(1, b"\n");
 }

@@ -4,13 +4,16 @@ mod lines;
 mod terms;
 
 use crate::lines::check_line;
+use crate::lines::check_line_on;
 use crate::lines::check_line_with;
 use crate::lines::counts_line;
 use crate::lines::heading;
 use crate::lines::open_line;
 use crate::lines::read_line;
 use crate::lines::request_line;
+use crate::lines::request_line_on;
 use crate::lines::say_line;
+use crate::lines::say_line_on;
 use crate::terms::A0;
 use crate::terms::A3;
 use crate::terms::C0;
@@ -23,10 +26,12 @@ use crate::terms::S;
 use crate::terms::S7;
 use crate::terms::SIGN3;
 use crate::terms::SIGN4;
+use crate::terms::TODAY;
 use crate::terms::V0;
 use crate::terms::deep;
 use crate::terms::escaping;
 use crate::terms::proof;
+use crate::terms::receipt;
 use crate::terms::rules;
 use crate::terms::signature;
 use crate::terms::statement;
@@ -57,9 +62,9 @@ fn read_back(register: &[u32]) {
     check_line(b"p", register, &p);
 }
 
-// "64 words suffice."
-fn grant(register: &mut [u32; 64]) {
-    heading(b"A register of 64 words");
+// "01's worked register uses 29, then 70".
+fn grant(register: &mut [u32; 70]) {
+    heading(b"A register of 70 words");
     begin(register);
     let said = statement();
     say_line(b"a3 says it again", register, 3, &said);
@@ -70,9 +75,9 @@ fn grant(register: &mut [u32; 64]) {
     read_back(register);
 }
 
-// "63 give 16."
-fn full(register: &mut [u32; 63]) {
-    heading(b"A register of 63 words");
+// "and 69 give 16".
+fn full(register: &mut [u32; 69]) {
+    heading(b"A register of 69 words");
     begin(register);
     let p = proof();
     request_line(b"request 0, 7, 9 with p", register, 0, 7, 9, &p);
@@ -101,11 +106,12 @@ fn lent_refusals(register: &[u32]) {
         &sig,
         OPERATIONS,
         register,
+        TODAY,
         &term,
         &mut short,
     );
-    let word = [2];
-    check_line(b"2, a register of 1 word", &word, &term);
+    let words = [3, 0];
+    check_line(b"2, a register of 2 words", &words, &term);
     let broken = [9, 0, 0, 0, 0, 0, 0, 0];
     check_line(b"3, 8 words with word 0 = 9", &broken, &term);
     let bad = [1, S];
@@ -115,10 +121,11 @@ fn lent_refusals(register: &[u32]) {
         &bad,
         OPERATIONS,
         register,
+        TODAY,
         &term,
         &mut ws,
     );
-    check_line_with(b"5, n = 0", &sig, 0, register, &term, &mut ws);
+    check_line_with(b"5, n = 0", &sig, 0, register, TODAY, &term, &mut ws);
 }
 
 // The rows for a term that has no type.
@@ -148,13 +155,14 @@ fn separate_refusals(register: &[u32]) {
     check_line(b"11, the same said by a0", register, &another);
 }
 
-// The rows of the refusal table, in its order; beside 11 stand document 02's. The registers of 63 words and of 4
+// The rows of the refusal table, in its order; beside 11 stand document 02's. The registers of 69 words and of 4
 // records are those that the examples before left.
-fn refusals(register: &mut [u32; 64], short: &mut [u32; 63], granted: &[u32; 64]) {
+fn refusals(register: &mut [u32; 64], short: &mut [u32; 69], granted: &[u32; 70]) {
     heading(b"The refusal table, on a register of 64 words");
     begin(register);
     lent_refusals(register);
     let said = statement();
+    say_line_on(b"23, a3 says App C2 s7 on day 14", register, 14, 3, &said);
     say_line(b"15, a0 says App C2 s7", register, 0, &said);
     term_refusals(register);
     separate_refusals(register);
@@ -164,8 +172,9 @@ fn refusals(register: &mut [u32; 64], short: &mut [u32; 63], granted: &[u32; 64]
     request_line(b"13, Sign3 App C2 s7", register, 0, 7, 9, &another);
     let never = [SIGN4, APP, C2, S7];
     check_line(b"14, Sign4 App C2 s7, never said", register, &never);
+    check_line_on(b"22, Sign3 App C2 s7 on day 19", register, 19, &another);
     let p = proof();
-    request_line(b"16, p on 63 words", short, 0, 7, 9, &p);
+    request_line(b"16, p on 69 words", short, 0, 7, 9, &p);
     read_line(b"17, record 4 of 4", granted, 4);
     counts_line(register);
 }
@@ -190,10 +199,54 @@ fn trusts(register: &mut [u32; 64]) {
     counts_line(register);
 }
 
+// Requests on days that no statement covers, or before the latest.
+fn late_requests(register: &mut [u32]) {
+    let p = proof();
+    request_line_on(b"request on day 14", register, 14, 0, 7, 9, &p);
+    request_line_on(b"request on day 19", register, 19, 0, 7, 9, &p);
+    request_line_on(b"request on day 21", register, 21, 0, 7, 9, &p);
+}
+
+// A say that adds nothing sets the latest day.
+fn day_moves(register: &mut [u32]) {
+    let said = statement();
+    say_line_on(b"a3 says it again on day 16", register, 16, 3, &said);
+    counts_line(register);
+    let p = proof();
+    request_line(b"request on day 15", register, 0, 7, 9, &p);
+    request_line_on(b"request on day 18", register, 18, 0, 7, 9, &p);
+    counts_line(register);
+}
+
+// The receipt "holds from the day of the grant just before it"; the proof rests on what a3 says.
+fn check_days(register: &[u32]) {
+    let state = receipt();
+    check_line_on(b"the receipt on day 17", register, 17, &state);
+    check_line_on(b"the receipt on day 18", register, 18, &state);
+    check_line_on(
+        b"the receipt on day 4294967295",
+        register,
+        4294967295,
+        &state,
+    );
+    let p = proof();
+    check_line_on(b"p on day 12", register, 12, &p);
+    check_line_on(b"p on day 19", register, 19, &p);
+}
+
+// Document 02, slip 5: r holds from day 10 to day 20, what a3 says from day 12 to day 18.
+fn lapses(register: &mut [u32; 70]) {
+    heading(b"Statements that lapse, on a register of 70 words");
+    begin(register);
+    late_requests(register);
+    day_moves(register);
+    check_days(register);
+}
+
 fn main() {
-    let mut granted = [0u32; 64];
+    let mut granted = [0u32; 70];
     grant(&mut granted);
-    let mut short = [0u32; 63];
+    let mut short = [0u32; 69];
     full(&mut short);
     let mut long = [0u32; 300];
     long_says(&mut long);
@@ -201,4 +254,6 @@ fn main() {
     refusals(&mut register, &mut short, &granted);
     let mut trust_register = [0u32; 64];
     trusts(&mut trust_register);
+    let mut dated = [0u32; 70];
+    lapses(&mut dated);
 }

@@ -27,6 +27,8 @@ const V2: u32 = VARIABLE_0 + 2;
 
 pub(crate) const C0: u32 = CONSTANT_0;
 
+const C1: u32 = C0 + 1;
+
 pub(crate) const C2: u32 = C0 + 2;
 
 const C3: u32 = C0 + 3;
@@ -34,6 +36,8 @@ const C3: u32 = C0 + 3;
 pub(crate) const C9: u32 = C0 + 9;
 
 pub(crate) const S7: u32 = TEXT_0 + 7;
+
+const S9: u32 = TEXT_0 + 9;
 
 pub(crate) const A0: u32 = NAME_0;
 
@@ -53,6 +57,17 @@ pub(crate) const RET: u32 = logic::word::RET;
 
 // The operations of the sample.
 pub(crate) const OPERATIONS: u32 = 1;
+
+// Document 02, slip 5: the day of the calls, and the days of what is said; those of the rule r.
+pub(crate) const TODAY: u32 = 15;
+
+pub(crate) const FROM: u32 = 12;
+
+pub(crate) const UNTIL: u32 = 18;
+
+const RULE_FROM: u32 = 10;
+
+const RULE_UNTIL: u32 = 20;
 
 // Lays block into out again and again, and last at its end.
 fn lay(block: &[u32], last: &[u32], out: &mut [u32]) {
@@ -85,11 +100,11 @@ fn rule() -> [u32; 13] {
     [PI, S, PI, N, PI, SAYS, V0, APP, C2, V1, APP, C0, V2]
 }
 
-// The rule list of r alone: principal, length, proposition.
-pub(crate) fn rules() -> [u32; 15] {
-    let head = [0, 13];
+// The rule list of r alone: principal, first day, last day, length, proposition.
+pub(crate) fn rules() -> [u32; 17] {
+    let head = [0, RULE_FROM, RULE_UNTIL, 13];
     let proposition = rule();
-    let mut words = [0u32; 15];
+    let mut words = [0u32; 17];
     lay(&head, &proposition, &mut words);
     words
 }
@@ -102,6 +117,11 @@ pub(crate) fn proof() -> [u32; 27] {
     words[1] = SIGN_0;
     lay(&proposition, &body, &mut words[2..]);
     words
+}
+
+// What the receipt of request 0, 7, 9 states, as a Sign: Sign0 App App C1 s7 s9.
+pub(crate) fn receipt() -> [u32; 6] {
+    [SIGN_0, APP, APP, C1, S7, S9]
 }
 
 // A = App C2 s7, which a3 says.

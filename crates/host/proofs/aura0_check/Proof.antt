@@ -27,7 +27,7 @@ code-requires : tie.Need-code-requires
 code-requires c κs =
     let s = before-shared-slice-known (before-number (c .before .before .before .before)) in
     let H = c .before .before .check .ensures in
-    check-fits (lent-here s) (s .args .register .now) (s .args .term .now) (omega (arith, s .good)) (H .number-is) (H .place-is)
+    check-fits (lent-here s) (s .args .register .now) (s .args .day) (s .args .term .now) (omega (arith, s .good)) (H .number-is) (H .place-is)
 
 same-length : tie.Need-same-length
 same-length c = search needs
@@ -36,7 +36,7 @@ returns : tie.Need-returns
 returns c =
     let s = before-shared-slice-known (before-number (c .before .before .before .before .before)) in
     let H = c .before .before .before .check .ensures in
-    c .code .ensures ∙ handed-code (check-call (lent-here s) (s .args .register .now) (s .args .term .now)) (H .number-is) (H .place-is)
+    c .code .ensures ∙ handed-code (check-call (lent-here s) (s .args .register .now) (s .args .day) (s .args .term .now)) (H .number-is) (H .place-is)
 
 pub aura0-check-spec : {M : Type 1} → statement M
 aura0-check-spec = tie.close (tie.spec check-requires code-requires same-length returns)

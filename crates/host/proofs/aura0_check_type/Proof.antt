@@ -16,7 +16,7 @@ lent-here s = lent-of (s .args .signature .now) (s .args .n) (s .args .workspace
 
 -- the call
 abbrev called : tie.Start → Result Term
-called s = check-call (lent-here s) (s .args .register .now) (s .args .term .now)
+called s = check-call (lent-here s) (s .args .register .now) (s .args .day) (s .args .term .now)
 
 judge-requires : tie.Need-judge-requires
 judge-requires c κs = search needs
@@ -43,8 +43,8 @@ code-requires c κs =
     let at-judge = c .before .before .before .before .before in
     let s = before-shared-slice-known (before-judge at-judge) in
     let j = at-judge .judge in
-    let H = handed-nothing (called s) _ (j .last .1 .1 .1 .1 .0) (j .result) (j .ensures) _ _ (c .before .judged2 .given .1) in
-    check-fits (lent-here s) (s .args .register .now) (s .args .term .now) (omega (arith, s .good)) (H .number-is) (H .place-is)
+    let H = handed-nothing (called s) _ (j .last .1 .1 .1 .1 .1 .0) (j .result) (j .ensures) _ _ (c .before .judged2 .given .1) in
+    check-fits (lent-here s) (s .args .register .now) (s .args .day) (s .args .term .now) (omega (arith, s .good)) (H .number-is) (H .place-is)
 
 same-length : tie.Need-same-length
 same-length c = search needs
@@ -53,7 +53,7 @@ returns : tie.Need-returns
 returns c =
     let at-judge = c .before .before .before .before .before in
     let s = before-shared-slice-known (before-judge at-judge) in
-    let j = at-judge .judge in typed-to (called s) _ (j .last .1 .1 .1 .1 .0) (j .result) (j .ensures) _ _ (c .before .judged .given .1)
+    let j = at-judge .judge in typed-to (called s) _ (j .last .1 .1 .1 .1 .1 .0) (j .result) (j .ensures) _ _ (c .before .judged .given .1)
 
 same-length-2 : tie.Need-same-length-2
 same-length-2 c = search needs
@@ -63,7 +63,7 @@ returns-2 c =
     let at-judge = before-workspace (c .before .before .before .before .before) in
     let s = before-shared-slice-known (before-judge at-judge) in
     let j = at-judge .judge in
-    refused-to (called s) _ (j .last .1 .1 .1 .1 .0) (j .result) (j .ensures) _ _ (c .before .before .judged2 .given .1) (c .code .result) (c .code .ensures)
+    refused-to (called s) _ (j .last .1 .1 .1 .1 .1 .0) (j .result) (j .ensures) _ _ (c .before .before .judged2 .given .1) (c .code .result) (c .code .ensures)
 
 pub aura0-check-type-spec : {M : Type 1} → statement M
 aura0-check-type-spec =

@@ -15,7 +15,7 @@ lent-here s = lent-of (s .args .signature .now) (s .args .n) (s .args .workspace
 
 -- what is asked
 abbrev asked : tie.Start → Ask
-asked s = ask-of (s .args .operation) (s .args .extract) (s .args .delivery) (s .args .proof .now)
+asked s = ask-of (s .args .operation) (s .args .extract) (s .args .delivery) (s .args .day) (s .args .proof .now)
 
 -- the call
 abbrev called : tie.Start → Result (Unit {0})

@@ -13,7 +13,7 @@ lent-here s = lent-of (s .args .signature .now) (s .args .n) (s .args .workspace
 
 -- what is said
 abbrev said-by : tie.Start → Statement
-said-by s = statement-of (s .args .principal) (s .args .proposition .now)
+said-by s = statement-of (s .args .principal) (s .args .first) (s .args .last) (s .args .proposition .now)
 
 say-requires : tie.Need-say-requires
 say-requires c κs = search needs
@@ -44,8 +44,8 @@ code-requires c κs =
     let s = before-slice-known (before-say at-say) in
     let a = s .args in
     let v = at-say .say in
-    say-fits (lent-here s) (a .register .now) (said-by s) _ _ (omega (arith, s .good))
-    (unsaid-is (lent-here s) (a .register .now) (said-by s) (v .last .1 .1 .0) (v .result) (v .ensures) _ _
+    say-fits (lent-here s) (a .register .now) (a .day) (said-by s) _ _ (omega (arith, s .good))
+    (unsaid-is (lent-here s) (a .register .now) (a .day) (said-by s) (v .last .1 .1 .0) (v .result) (v .ensures) _ _
     (c .before .said .given .1))
 
 same-length : tie.Need-same-length
@@ -60,7 +60,7 @@ returns c =
     let s = before-slice-known (before-say at-say) in
     let a = s .args in
     let v = at-say .say in
-    said-added (lent-here s) (a .register .now) (said-by s) (v .last .1 .1 .0) (v .result) (v .ensures) (c .enum-told .given .1)
+    said-added (lent-here s) (a .register .now) (a .day) (said-by s) (v .last .1 .1 .0) (v .result) (v .ensures) (c .enum-told .given .1)
 
 same-length-3 : tie.Need-same-length-3
 same-length-3 c = search needs
@@ -74,7 +74,7 @@ returns-2 c =
     let s = before-slice-known (before-say at-say) in
     let a = s .args in
     let v = at-say .say in
-    said-held (lent-here s) (a .register .now) (said-by s) (v .last .1 .1 .0) (v .result) (v .ensures) (c .enum-told2 .given .1)
+    said-held (lent-here s) (a .register .now) (a .day) (said-by s) (v .last .1 .1 .0) (v .result) (v .ensures) (c .enum-told2 .given .1)
 
 same-length-5 : tie.Need-same-length-5
 same-length-5 c = search needs
@@ -88,7 +88,7 @@ returns-3 c =
     let s = before-slice-known (before-say at-say) in
     let a = s .args in
     let v = at-say .say in
-    said-nothing (lent-here s) (a .register .now) (said-by s) (v .last .1 .1 .0) (v .result) (v .ensures) _ _
+    said-nothing (lent-here s) (a .register .now) (a .day) (said-by s) (v .last .1 .1 .0) (v .result) (v .ensures) _ _
     (c .before .before .said .given .1) (c .code .result) (c .code .ensures)
 
 pub aura0-say-spec : {M : Type 1} → statement M
