@@ -12,7 +12,7 @@ use Rattle.logic.proofs.Basics.{clash}
 use Rattle.logic.proofs.Results.{bind-is}
 use Rattle.logic.proofs.Check.{check-term-right}
 use Rattle.logic.proofs.Searches.{first-miss-first}
-use Rattle.register.specs.Records.{Content, Dated, statements, holding, Until}
+use Rattle.register.specs.Records.{Record, Content, Dated, statements, holding, Until, StatedBy, HeldOutside}
 use Rattle.register.specs.Calls.{Lent, sign-refusal, unmissed, check-own, check-call}
 use Rattle.register.specs.Lapse.{HeldBefore, Lapses}
 use Rattle.register.proofs.Held.{holding-covered, holding-lapsed, holding-unheld}
@@ -43,6 +43,21 @@ not-until : (day last : ℕ) (o : Option ℕ) → o ≡ some last → last < day
 not-until day last none e l h = clash (cc)
 not-until day last (some x) e l h = let f : x ≡ last = cc in omega arith
 
+-- a Sign that only one statement holds has lapsed when its last day has passed
+only-passed : (day : ℕ) (rs : List Record) (a : ℕ) (q : List ℕ) (d : Dated) (last : ℕ) → StatedBy rs a q d →
+    ((e : Dated) → StatedBy rs a q e → e ≡ d) → d .last ≡ some last → last < day → HeldOutside (some day) rs a q
+only-passed day rs a q d last s only e l = record {
+  which = d;
+  stated = s;
+  outside = λ h. not-until day last (h .which .last) (ap (λ (y : Dated). y .last) (only (h .which) (h .stated)) ∙ e) l (h .covers .1);
+}
+
+-- a Sign that is held only outside the day is 22, where those before it are held
+lapsed-22 : (l : Lent) (reg : List ℕ) (day : ℕ) (ws : List ℕ) (n : ℕ) (q : Term) (p : ℕ) (c : Content) →
+    HeldBefore l reg day ws n q p c → HeldOutside (some day) (c .records) n (encode q) → check-call l reg day ws ≡ refused held-outside p
+lapsed-22 l reg day ws n q p c F h =
+    missed l reg day ws n q p c held-outside F (ap sign-refusal (holding-lapsed (some day) (c .records) n (encode q) .1 h))
+
 pub lapses : Lapses
 lapses = record {
   stays = λ l reg day day′ ws A h cover. demand2 .checks l reg day′ ws A .1 (record {
@@ -54,13 +69,10 @@ lapses = record {
     passes = h .passes;
     signs = λ n q i. record { which = h .signs n q i .which; stated = h .signs n q i .stated; covers = cover n q i };
   });
-  outside = λ l reg day ws n q p c F h.
-      missed l reg day ws n q p c held-outside F (ap sign-refusal (holding-lapsed (some day) (c .records) n (encode q) .1 h));
+  outside = lapsed-22;
   unheld = λ l reg day ws n q p c F h.
       missed l reg day ws n q p c not-held F (ap sign-refusal (holding-unheld (some day) (c .records) n (encode q) .1 h));
-  passed = λ day rs a q d last s only e l. record {
-    which = d;
-    stated = s;
-    outside = λ h. not-until day last (h .which .last) (ap (λ (y : Dated). y .last) (only (h .which) (h .stated)) ∙ e) l (h .covers .1);
-  };
+  passed = only-passed;
+  passed-22 = λ l reg day ws n q p c d last F s only e k.
+      lapsed-22 l reg day ws n q p c F (only-passed day (c .records) n (encode q) d last s only e k);
 }

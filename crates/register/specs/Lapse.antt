@@ -39,3 +39,7 @@ pub record Lapses : Type 0 where
   -- so a Sign that only one statement holds has lapsed when its last day has passed
   pub passed : (day : ℕ) (rs : List Record) (a : ℕ) (q : List ℕ) (d : Dated) (last : ℕ) →
       StatedBy rs a q d → ((e : Dated) → StatedBy rs a q e → e ≡ d) → d .last ≡ some last → last < day → HeldOutside (some day) rs a q
+  -- and is then 22, where it is the first that is not held
+  pub passed-22 : (l : Lent) (reg : List ℕ) (day : ℕ) (ws : List ℕ) (n : ℕ) (q : Term) (p : ℕ) (c : Content) (d : Dated) (last : ℕ) →
+      HeldBefore l reg day ws n q p c → StatedBy (c .records) n (encode q) d → ((e : Dated) → StatedBy (c .records) n (encode q) e → e ≡ d) →
+      d .last ≡ some last → last < day → check-call l reg day ws ≡ refused 22 p
