@@ -7,21 +7,21 @@ use mathlib.Core.Bool.{Bool, true, false}
 use mathlib.Core.List.{List}
 use lib.ListN.{length}
 use Rattle.logic.specs.Refusals.{out-of-form, last-refusal}
-use Rattle.logic.specs.Result.{Result, ok, refused, number-of, _>>_}
+use Rattle.logic.specs.Result.{Result, ok, refused, number-of, _>>_, without-value}
 use Rattle.logic.proofs.Results.{ok-inj, not-ok, followed}
-use Rattle.logic.proofs.Stopped.{not-refused, number-is, place-is, stopped-then, stop-then, not-passed, passed-not}
-use Rattle.typing.specs.Check.{without-value}
+use Rattle.logic.proofs.Stopped.{one-answer, not-refused, number-is, place-is, stopped-then, stop-then, not-passed, passed-not}
 use Rattle.register.specs.Records.{Ask}
 use Rattle.register.specs.Calls.{Lent, request-call, after-request}
 use Rattle.register.proofs.Bounds.{request-bound}
-use Rattle.register.proofs.Refuses.{demand1, one-answer}
+use Rattle.register.proofs.Refuses.{demand1}
 use Rattle.register.proofs.Succeeds.{demand2}
-use Rattle.homes.specs.Homes.{formed, joined, after-write}
+use Rattle.words.specs.Place.{after-write}
+use Rattle.homes.specs.Homes.{formed, joined}
 use Rattle.homes.specs.Right.{InForm, Right}
 use Rattle.homes.proofs.InForm.{in-form}
 use Rattle.homes.proofs.Outputs.{joined-length, joined-right, right-joined, output-right}
 use Rattle.extract.specs.Extract.{extract-call}
-use Rattle.extract.specs.Demands.{ExtractRefused, extract-21, extract-request, Extractable, ExtractDemands, Demands}
+use Rattle.extract.specs.Demands.{ExtractRefused, extract-21, extract-request, Extractable, ExtractDemands}
 use Rattle.extract.proofs.Extracts.{broken-form, right-form, request-answer}
 
 module _ (l : Lent) (reg : List ℕ) (k : Ask) (hs t : List ℕ) (room : ℕ) where
@@ -117,10 +117,7 @@ module _ (l : Lent) (reg : List ℕ) (k : Ask) (hs t : List ℕ) (room : ℕ) wh
   refused-within (extract-21 n) = (omega arith, omega arith)
   refused-within (extract-request {m} {place} f r) =
       let (n, q) = request-bound l reg k (demand1 .requests l reg k .refuses m place .1 r) in
-      (n .1, q)
+      (omega (arith, n .1), q)
 
   pub extract-bound : {m place : ℕ} → call ≡ refused m place → (m ≤ last-refusal) × (place ≤ length (l .sig) + length (k .proof))
   extract-bound e = refused-within (refused-then e)
-
-pub demands : Demands
-demands = record { refuses = demand1; succeeds = demand2; extracts = extract-demands }

@@ -5,16 +5,16 @@ use mathlib.Core.Bool.{Bool, true, false}
 use mathlib.Core.List.{List}
 use lib.ListN.{length}
 use Rattle.logic.specs.Refusals.{out-of-form}
-use Rattle.logic.specs.Result.{Result, ok, refused, _>>_, require}
-use Rattle.rules.specs.declared.derivation.Verdict.{Verdict}
-use Rattle.rules.specs.declared.derivation.Verdict.the-variants.{Passed, Refused}
-use Rattle.rules.specs.Form.{verdict-answer}
-use Rattle.typing.specs.Check.{without-value}
+use Rattle.logic.specs.Result.{Result, ok, refused, _>>_, require, without-value}
+use Rattle.words.specs.declared.verdict.Verdict.{Verdict}
+use Rattle.words.specs.declared.verdict.Verdict.the-variants.{Passed, Refused}
 use Rattle.words.specs.Place.{written-at}
 use Rattle.register.specs.Records.{Ask}
 use Rattle.register.specs.Calls.{Lent, request-call, after-request}
 use Rattle.request.specs.Requested.{RequestedAs}
-use Rattle.homes.specs.Homes.{formed, joined, after-write}
+use Rattle.words.specs.Place.{after-write}
+use Rattle.words.specs.Verdict.{verdict-answer}
+use Rattle.homes.specs.Homes.{formed, joined}
 use Rattle.extract.specs.Extract.{extract-call, ExtractedAs}
 
 -- a value put behind an answer, and taken away again

@@ -6,14 +6,12 @@ use mathlib.Core.Bool.{Bool, true, false, cond}
 use mathlib.Core.List.{List, [], _∷_, _++_, List·Permᴰ, List·Permᴰ·nil, List·Permᴰ·cons, List·Permᴰ·swap}
 use mathlib.Core.List.{List·Permᴰ·trans, Permᴰ·refl, Permᴰ·symm, Permᴰ·append-left, Permᴰ·middle}
 use Rattle.logic.specs.Refusals.{out-of-form}
-use Rattle.logic.specs.Result.{Result, refused}
-use Rattle.typing.specs.Check.{without-value}
+use Rattle.logic.specs.Result.{Result, refused, without-value}
 use Rattle.register.specs.Records.{Ask, register-content, written}
 use Rattle.register.specs.Calls.{after-request, new-content}
 use Rattle.register.specs.History.{Setting, lent, Call, Reply, request, requested, reply, after, Refused, run, NoRefusal}
 use Rattle.register.proofs.Demand.{demand3}
 use Rattle.homes.specs.Homes.{formed}
-use Rattle.extract.specs.Extract.{extract-call}
 use Rattle.extract.specs.Desk.{DeskCall, plain, extract, desk-reply, desk-after, desk-run, desk-answers}
 use Rattle.extract.specs.Desk.{as-request, as-requests, reply-as-request, answers-as-requests, NoDeskRefusal}
 use Rattle.extract.specs.Desk.{DeskDemand3}

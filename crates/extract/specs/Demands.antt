@@ -6,13 +6,12 @@ use mathlib.Core.Logic.{_↔_}
 use mathlib.Core.List.{List}
 use lib.ListN.{length}
 use Rattle.logic.specs.Refusals.{out-of-form}
-use Rattle.logic.specs.Result.{number-of}
-use Rattle.typing.specs.Check.{without-value}
+use Rattle.logic.specs.Result.{number-of, Answers, without-value}
 use Rattle.register.specs.Records.{Ask}
 use Rattle.register.specs.Calls.{Lent, request-call, after-request}
-use Rattle.register.specs.Succeeds.{Grantable, Demand2}
-use Rattle.register.specs.Refuses.{RequestRefused, Answers, Demand1}
-use Rattle.homes.specs.Homes.{after-write}
+use Rattle.register.specs.Succeeds.{Grantable}
+use Rattle.register.specs.Refuses.{RequestRefused}
+use Rattle.words.specs.Place.{after-write}
 use Rattle.homes.specs.Right.{InForm, Right}
 use Rattle.extract.specs.Extract.{extract-call}
 
@@ -44,9 +43,3 @@ module _ (l : Lent) (reg : List ℕ) (k : Ask) (hs t : List ℕ) (room : ℕ) wh
     pub output-right : {xs : List ℕ} (old : List ℕ) → length old ≡ room → Extractable xs →
         Right hs t old (after-write (extract-call l reg k hs t room) old)
     pub output-kept : {m place : ℕ} (old : List ℕ) → ExtractRefused m place → after-write (extract-call l reg k hs t room) old ≡ old
-
--- the first and the second demand, of the calls on the register and of the extract desk
-pub record Demands : Type 0 where
-  pub refuses : Demand1
-  pub succeeds : Demand2
-  pub extracts : (l : Lent) (reg : List ℕ) (k : Ask) (hs t : List ℕ) (room : ℕ) → ExtractDemands l reg k hs t room

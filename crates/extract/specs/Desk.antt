@@ -5,8 +5,7 @@ use mathlib.Core.List.{List, [], _∷_, _++_, List·Permᴰ}
 use mathlib.Core.Bool.{cond}
 use lib.ListN.{length}
 use Rattle.logic.specs.Refusals.{out-of-form}
-use Rattle.logic.specs.Result.{ok, refused}
-use Rattle.typing.specs.Check.{without-value}
+use Rattle.logic.specs.Result.{ok, refused, without-value}
 use Rattle.register.specs.Records.{Record, Ask, Content, register-content, written}
 use Rattle.register.specs.Calls.{after-request, open-call, new-content}
 use Rattle.register.specs.History.{Setting, lent, Call, Reply, request, requested, reply, after, Refused, run, read-off, OneDay, Demand, Reordered}

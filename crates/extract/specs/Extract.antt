@@ -5,13 +5,13 @@ use mathlib.Core.Path.{_≡_}
 use mathlib.Core.List.{List}
 use lib.ListN.{length}
 use Rattle.logic.specs.Refusals.{out-of-form}
-use Rattle.logic.specs.Result.{Result, ok, _>>_, require}
-use Rattle.rules.specs.declared.derivation.Verdict.{Verdict}
-use Rattle.rules.specs.Form.{verdict-answer}
-use Rattle.typing.specs.Check.{without-value}
+use Rattle.logic.specs.Result.{Result, ok, _>>_, require, without-value}
+use Rattle.words.specs.declared.verdict.Verdict.{Verdict}
 use Rattle.register.specs.Records.{Ask}
 use Rattle.register.specs.Calls.{Lent, request-call, after-request}
-use Rattle.homes.specs.Homes.{formed, joined, after-write}
+use Rattle.words.specs.Place.{after-write}
+use Rattle.words.specs.Verdict.{verdict-answer}
+use Rattle.homes.specs.Homes.{formed, joined}
 
 -- the words to write, or the refusal: a form that is broken "is refused with 21 before the request is tried"
 unfoldable pub extract-call : Lent → (reg : List ℕ) → Ask → (homes surveys : List ℕ) (room : ℕ) → Result (List ℕ)

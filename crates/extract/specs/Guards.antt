@@ -9,7 +9,7 @@ use Rattle.logic.specs.Worked.{p}
 use Rattle.register.specs.Records.{Ask, ask-of}
 use Rattle.register.specs.History.{requested, lent, run}
 use Rattle.register.specs.Worked.{setting, opened-sample, say-consent, request-extract}
-use Rattle.homes.specs.Homes.{after-write}
+use Rattle.words.specs.Place.{after-write}
 use Rattle.extract.specs.Extract.{extract-call}
 use Rattle.extract.specs.Desk.{DeskCall, extract, desk-run, desk-answers}
 

@@ -4,7 +4,7 @@ use homes::join;
 use homes::well_formed;
 use logic::refusal::OUT_OF_FORM;
 use request::request;
-use rules::derivation::Verdict;
+use words::verdict::Verdict;
 ghost use Rattle.register.specs.Records.{ask-of};
 ghost use Rattle.shared_tests.specs.Shared.{lent-of};
 ghost use Rattle.extract.specs.Extract.{ExtractedAs};

@@ -3,7 +3,8 @@ use mathlib.Core.Path.{_≡_}
 use mathlib.Core.Bool.{true, false}
 use mathlib.Core.List.{[], _∷_}
 use Rattle.logic.specs.Result.{ok, refused}
-use Rattle.homes.specs.Homes.{most-homes, most-rows, no-survey, formed, write-call, after-write}
+use Rattle.words.specs.Place.{after-write}
+use Rattle.homes.specs.Homes.{most-homes, most-rows, no-survey, formed, write-call}
 
 pub record HomesGuards : Type 0 where
   -- "at most 1,024", "at most 4,096 rows", "4294967295"

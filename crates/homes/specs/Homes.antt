@@ -7,8 +7,8 @@ use mathlib.Core.List.{List, [], _∷_}
 use lib.Dec.{leb, ltb, eqb}
 use lib.ListN.{length}
 use Rattle.logic.specs.Refusals.{out-of-form}
-use Rattle.logic.specs.Result.{Result, ok, refused, number-of, _>>_, require}
-use Rattle.words.specs.Place.{written-at}
+use Rattle.logic.specs.Result.{Result, ok, number-of, _>>_, require}
+use Rattle.words.specs.Place.{after-write}
 
 -- "a list of homes (u32, at most 1,024, strictly rising)"
 abbrev pub most-homes : ℕ
@@ -57,12 +57,7 @@ joined (h ∷ hs) t = h ∷ survey-code h t ∷ joined hs t
 unfoldable pub write-call : (hs t : List ℕ) (room : ℕ) → Result (List ℕ)
 write-call hs t room = require (formed hs t room) out-of-form 0 >> ok (joined hs t)
 
--- the output afterwards: "output past the last home is unchanged", and a refusal writes nothing
-abbrev pub after-write : Result (List ℕ) → List ℕ → List ℕ
-after-write (ok xs) out = written-at out 0 xs
-after-write (refused m p) out = out
-
--- the answer's number, and the output afterwards
+-- the answer's number, and the output afterwards: "output past the last home is unchanged"
 pub record Wrote (o : Result (List ℕ)) (old new : List ℕ) (r : ℕ) : Type 0 where
   pub number : r ≡ number-of o
   pub output : new ≡ after-write o old

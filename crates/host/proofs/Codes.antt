@@ -7,15 +7,17 @@ use mathlib.Core.List.{List}
 use lib.ListN.{length}
 use lib.Seq.{length-take-le}
 use Rattle.logic.specs.Refusals.{last-refusal}
-use Rattle.logic.specs.Result.{Result, ok, refused, number-of, place-of}
+use Rattle.logic.specs.Result.{Result, ok, refused, number-of, place-of, without-value}
 use Rattle.logic.specs.Term.{Term}
+use Rattle.logic.proofs.Results.{ok-inj, bound}
+use Rattle.logic.proofs.Stopped.{not-mapped}
 use Rattle.rules.specs.declared.derivation.Derivation.{Derivation}
 use Rattle.rules.specs.declared.derivation.Derivation.the-variants.{Typed, Refused}
-use Rattle.rules.specs.declared.derivation.Verdict.{Verdict}
-use Rattle.rules.specs.declared.derivation.Verdict.the-variants.{Passed, Refused as VerdictRefused}
-use Rattle.rules.specs.Form.{verdict-answer}
-use Rattle.typing.specs.Check.{Judged, without-value}
-use Rattle.typing.proofs.Verdicts.{passed-told}
+use Rattle.words.specs.declared.verdict.Verdict.{Verdict}
+use Rattle.words.specs.declared.verdict.Verdict.the-variants.{Passed, Refused as VerdictRefused}
+use Rattle.words.specs.Verdict.{verdict-answer}
+use Rattle.typing.specs.Check.{Judged}
+use Rattle.words.proofs.Verdicts.{passed-told}
 use Rattle.register.specs.Records.{Statement, Ask}
 use Rattle.register.specs.Calls.{Lent, open-call, say-call, request-call, check-call}
 use Rattle.register.proofs.Bounds.{Number, open-bound, say-bound, request-bound, check-bound}
@@ -24,9 +26,15 @@ use Rattle.check_call.proofs.Checks.{handed-type, handed-nothing}
 use Rattle.say.specs.Said.{said-answer, SaysAs}
 use Rattle.say.specs.declared.Said.{Said}
 use Rattle.say.specs.declared.Said.the-variants.{Added, Held, Refused as SaidRefused}
+use Rattle.editions.specs.Convert.{converted}
+use Rattle.named.specs.Answers.{conversion-answer, ConvertedAs}
+use Rattle.editions.specs.declared.Edition.{Edition}
+use Rattle.named.specs.declared.convert.Conversion.{Conversion}
+use Rattle.named.specs.declared.convert.Conversion.the-variants.{Written, Refused as ConversionRefused}
+use Rattle.editions.proofs.Refuses.{converted-bound}
 use Rattle.extract.specs.Extract.{extract-call}
 use Rattle.extract.proofs.Demands.{extract-bound}
-use Rattle.host.specs.Answers.{number-unit, place-limit, code-of, added-of, SaidTo, TypedTo}
+use Rattle.host.specs.Answers.{number-unit, place-limit, code-of, added-of, SaidTo, written-of, ConvertedTo, TypedTo}
 
 -- a number and a place that make up an answer
 abbrev pub Fits : ℕ → ℕ → Type 0
@@ -72,6 +80,24 @@ request-fits l reg k m p h e = let (n, q) = request-bound l reg k e in omega ari
 pub extract-fits : (l : Lent) (reg : List ℕ) (k : Ask) (homes surveys : List ℕ) (room m p : ℕ) → length (l .sig) + length (k .proof) < place-limit →
     extract-call l reg k homes surveys room ≡ refused m p → Fits m p
 extract-fits l reg k homes surveys room m p h e = let (n, q) = extract-bound l reg k homes surveys room e in omega arith
+
+-- ---- the converters
+
+module _ (o : Result (List ℕ)) (old new : List ℕ) (r : Conversion) (C : ConvertedAs o old new r) where
+  pub converted-to : (n : ℕ) → r ≡ Written n → ConvertedTo o old new n 0
+  converted-to n q = bound o (λ xs. ok (length xs)) (sym (C .answer) ∙ ap conversion-answer q) λ xs e f.
+      record { answer = ap code-of (sym e); output = C .output; written-is = sym (ap written-of e ∙ ok-inj f) }
+
+  pub unconverted-is : (m p : ℕ) → r ≡ ConversionRefused m p → o ≡ refused m p
+  unconverted-is m p q = not-mapped length o (sym (C .answer) ∙ ap conversion-answer q)
+
+  pub not-converted : (m p : ℕ) → r ≡ ConversionRefused m p → (code : ℕ) → code ≡ m * number-unit + p → ConvertedTo o old new 0 code
+  not-converted m p q code c =
+      let e = unconverted-is m p q in
+      record { answer = refused-code o m p code e c; output = C .output; written-is = sym (ap written-of e) }
+
+pub convert-fits : (e : Edition) (ws : List ℕ) (room m p : ℕ) → length ws < place-limit → converted e ws room ≡ refused m p → Fits m p
+convert-fits e ws room m p h r = let (n, l) = converted-bound e ws room m p r in omega arith
 
 -- ---- say
 

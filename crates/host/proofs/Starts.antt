@@ -61,7 +61,7 @@ module _ (reg : List ℕ) (k m : ℕ) (n : m ≡ number-of (read-call reg k)) wh
       go (refused m′ p) e f = let (l, z) = read-bound reg k e in ap₂ refused (sym f) z
 
   pub number-fits : (m ≡ 0 → ⊥) → m ≤ last-refusal
-  number-fits ne = read-bound reg k (refused-is ne) .0 .1
+  number-fits ne = omega (arith, read-bound reg k (refused-is ne) .0 .1)
 
   pub not-read : (kind : ℕ) (body : List ℕ) (code : ℕ) → (m ≡ 0 → ⊥) → kind ≡ kind-of (read-call reg k) → body ≡ body-of (read-call reg k) →
       code ≡ m * number-unit + 0 → ReadTo reg k kind 0 (length body) code

@@ -4,14 +4,13 @@ use mathlib.Core.Path.{_≡_}
 use mathlib.Core.Bool.{Bool, true, false}
 use mathlib.Core.List.{List}
 use lib.ListN.{length, take, drop}
-use Rattle.logic.specs.Result.{Result, ok, refused, _>>=_, _>>_}
+use Rattle.logic.specs.Result.{Result, ok, refused, _>>=_, _>>_, without-value}
 use Rattle.logic.specs.Term.{Term}
 use Rattle.register.specs.Records.{Statement, Ask, record-head, used-by, register-content}
 use Rattle.register.specs.Calls.{Lent, open-call, after-open, say-call, after-say, request-call, after-request, read-call}
 use Rattle.read_call.specs.Read.{body-of, kind-of}
-use Rattle.typing.specs.Check.{without-value}
 use Rattle.check_call.specs.Answers.{type-of}
-use Rattle.homes.specs.Homes.{after-write}
+use Rattle.words.specs.Place.{after-write}
 use Rattle.extract.specs.Extract.{extract-call}
 
 -- "the refusal number times 4294967296 plus the place"
@@ -52,6 +51,16 @@ pub record ExtractedTo (l : Lent) (reg : List ℕ) (k : Ask) (homes surveys new 
   pub answer : code ≡ code-of (extract-call l reg k homes surveys (length old))
   pub register : new ≡ after-request (without-value (extract-call l reg k homes surveys (length old))) reg k
   pub output : out ≡ after-write (extract-call l reg k homes surveys (length old)) old
+
+-- a conversion: also how many words were written, 0 where refused
+abbrev pub written-of : Result (List ℕ) → ℕ
+written-of (ok xs) = length xs
+written-of (refused m p) = 0
+
+pub record ConvertedTo (o : Result (List ℕ)) (old out : List ℕ) (written code : ℕ) : Type 0 where
+  pub answer : code ≡ code-of o
+  pub output : out ≡ after-write o old
+  pub written-is : written ≡ written-of o
 
 -- a check that tells where the type stands: the first words of the workspace, none where refused
 pub record TypedTo (o : Result Term) (workspace : List ℕ) (words code : ℕ) : Type 0 where

@@ -3,23 +3,28 @@
 // the refusal's number times 4294967296 plus the place, 0 for success.
 use check_call::check;
 use check_call::judge;
+use named::convert::Conversion;
+use named::convert::from_named;
+use named::convert::to_named;
 use open::open;
 use read_call::place;
 use read_call::read;
 use records::format::HEAD;
 use request::request;
 use rules::derivation::Derivation;
-use rules::derivation::Verdict;
 use say::Said;
 use say::say;
+use words::verdict::Verdict;
 ghost use mathlib.Core.Path.{_≡_};
 ghost use Prim.Native.Nat.{_+_, _*_, _≤_, _<_};
+ghost use lib.ListN.{length};
 ghost use Rattle.logic.specs.Refusals.{last-refusal};
 ghost use Rattle.register.specs.Records.{statement-of, ask-of};
 ghost use Rattle.register.specs.Calls.{check-call};
 ghost use Rattle.shared_tests.specs.Shared.{lent-of};
+ghost use Rattle.editions.specs.Convert.{from-named, to-named};
 ghost use Rattle.host.specs.Answers.{number-unit, place-limit, code-of};
-ghost use Rattle.host.specs.Answers.{OpenedTo, SaidTo, RequestedTo, ExtractedTo, TypedTo, ReadTo};
+ghost use Rattle.host.specs.Answers.{OpenedTo, SaidTo, RequestedTo, ExtractedTo, ConvertedTo, TypedTo, ReadTo};
 
 // What a refusal's number is multiplied by.
 const NUMBER_UNIT: u64 = 4294967296;
@@ -218,6 +223,44 @@ pub extern "C" fn aura0_check_type(
         }
         Derivation::Refused { number, place } => {
             *type_words = 0;
+            code(number, place)
+        }
+    }
+}
+
+// Conversion into names: `written` is how many words, 0 where refused.
+#[no_mangle]
+pub extern "C" fn aura0_to_named(term: &[u32], output: &mut [u32], written: &mut usize) -> u64
+    ensures { λ r. ⌜ ConvertedTo (to-named (now (term .entry)) (length (now (output .entry)))) (now (output .entry)) (now (output .exit))
+        (now (written .exit)) r ⌝ }
+{
+    let conversion = to_named(term, output);
+    match conversion {
+        Conversion::Written(words) => {
+            *written = words;
+            0
+        }
+        Conversion::Refused { number, place } => {
+            *written = 0;
+            code(number, place)
+        }
+    }
+}
+
+// Conversion from names, alike.
+#[no_mangle]
+pub extern "C" fn aura0_from_named(term: &[u32], output: &mut [u32], written: &mut usize) -> u64
+    ensures { λ r. ⌜ ConvertedTo (from-named (now (term .entry)) (length (now (output .entry)))) (now (output .entry)) (now (output .exit))
+        (now (written .exit)) r ⌝ }
+{
+    let conversion = from_named(term, output);
+    match conversion {
+        Conversion::Written(words) => {
+            *written = words;
+            0
+        }
+        Conversion::Refused { number, place } => {
+            *written = 0;
             code(number, place)
         }
     }

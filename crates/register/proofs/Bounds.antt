@@ -12,7 +12,7 @@ use lib.ListN.{length, take, drop, getElem?, length-drop, length-append}
 use borrow.Author.Tests.{leb-true}
 use Rattle.logic.specs.Limits.{most-type-words, most-words, most-nesting, most-statement-words, most-statement-nesting}
 use Rattle.logic.specs.Limits.{least-workspace, most-register, most-constants, most-constant-words}
-use Rattle.logic.specs.Refusals.{bad-signature, malformed, out-of-form, not-held, held-outside, last-refusal}
+use Rattle.logic.specs.Refusals.{bad-signature, malformed, out-of-form, not-held, held-outside, day-before-latest}
 use Rattle.logic.specs.Result.{Result, ok, refused, _>>=_, _>>_, require, known, nowhere}
 use Rattle.logic.specs.Term.{propA, typeA, stringA, prinA, kindPA, kindTA, constA, textA, nameA, saysO, piO, lamO, appO}
 use Rattle.logic.specs.Term.{retO, bindO, Atom, Term, atom, var, sign, node, P, N, Name, Says, Pi, encode, size}
@@ -36,9 +36,10 @@ use Rattle.register.specs.Calls.{say-entry, entry, ask-test, request-own
 use Rattle.register.specs.Calls.{at-rule, with-rule, rule-numbers, rule-own, opening, open-own, new-content, open-call, read-call}
 use Rattle.register.proofs.Opening.{next-rule-rest}
 
--- a refusal number of document 01 or 02, of a call on the register: 21 is the extract desk's alone
+-- a refusal number of document 01 or 02, of a call on the register: 21 is the extract desk's alone, and those above 23
+-- are of calls without a register
 abbrev pub Number : ℕ → Type 0
-Number m = (1 ≤ m) × (m ≤ last-refusal) × (m ≢ out-of-form)
+Number m = (1 ≤ m) × (m ≤ day-before-latest) × (m ≢ out-of-form)
 
 -- where a result is a refusal, it has such a number and a place up to the bound
 pub data Within {X : Type 0} (bound : ℕ) : Result X → Type 0 where

@@ -23,9 +23,9 @@ use Rattle.words.proofs.Types.{in-range}
 use Rattle.words.proofs.Sames.{same-types}
 use Rattle.rules.specs.declared.derivation.Derivation.{Derivation}
 use Rattle.rules.specs.declared.derivation.Derivation.the-variants.{Typed, Refused}
-use Rattle.rules.specs.declared.derivation.Verdict.{Verdict}
-use Rattle.rules.specs.declared.derivation.Verdict.the-variants.{Passed, Refused as VerdictRefused}
-use Rattle.rules.specs.Form.{verdict-answer}
+use Rattle.words.specs.declared.verdict.Verdict.{Verdict}
+use Rattle.words.specs.declared.verdict.Verdict.the-variants.{Passed, Refused as VerdictRefused}
+use Rattle.words.specs.Verdict.{verdict-answer}
 use Rattle.typing.specs.Check.{typed-term, Judged}
 use Rattle.records.specs.Answers.{Room}
 use Rattle.search.specs.Answers.{miss-answer}

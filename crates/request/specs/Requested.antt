@@ -7,8 +7,8 @@ use Rattle.logic.specs.Limits.{payloads, most-words, most-operations}
 use Rattle.logic.specs.Result.{ok}
 use Rattle.logic.specs.Term.{Term}
 use Rattle.words.specs.Place.{Is}
-use Rattle.rules.specs.declared.derivation.Verdict.{Verdict}
-use Rattle.rules.specs.Form.{verdict-answer}
+use Rattle.words.specs.declared.verdict.Verdict.{Verdict}
+use Rattle.words.specs.Verdict.{verdict-answer}
 use Rattle.register.specs.Records.{Content, Ask, register-content}
 use Rattle.register.specs.Calls.{Lent, request-call, after-request}
 

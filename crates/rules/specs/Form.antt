@@ -9,18 +9,11 @@ use Rattle.logic.specs.Term.{Term, size}
 use Rattle.words.specs.Typed.{TypeAt}
 use Rattle.rules.specs.declared.derivation.Derivation.{Derivation}
 use Rattle.rules.specs.declared.derivation.Derivation.the-variants.{Typed, Refused}
-use Rattle.rules.specs.declared.derivation.Verdict.{Verdict}
-use Rattle.rules.specs.declared.derivation.Verdict.the-variants.{Passed, Refused as VerdictRefused}
 
 -- number, place and values of each case: the words of the type, and where the term ends
 abbrev pub derivation-answer : Derivation → Result (ℕ × ℕ)
 derivation-answer (Typed words end) = ok (words, end)
 derivation-answer (Refused m p) = refused m p
-
--- number and place of each case
-abbrev pub verdict-answer : Verdict → Result (Unit {0})
-verdict-answer Passed = ok tt
-verdict-answer (VerdictRefused m p) = refused m p
 
 -- the words of the type that came out, of a term that ends at `end`
 abbrev pub type-and-end : Result Term → ℕ → Result (ℕ × ℕ)

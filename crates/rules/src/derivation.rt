@@ -3,9 +3,3 @@ pub enum Derivation {
     Typed { words: usize, end: usize },
     Refused { number: u32, place: usize },
 }
-
-// What tests answer that give no type.
-pub enum Verdict {
-    Passed,
-    Refused { number: u32, place: usize },
-}

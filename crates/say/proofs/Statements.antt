@@ -10,17 +10,16 @@ use lib.ListN.{length}
 use borrow.Author.Tests.{le-leb, lt-leb, eq-eqb, ne-eqb}
 use Rattle.logic.specs.Limits.{most-words}
 use Rattle.logic.specs.Refusals.{bad-number, day-before-latest, desk-says, register-full}
-use Rattle.logic.specs.Result.{Result, ok, refused, _>>=_, _>>_, require}
+use Rattle.logic.specs.Result.{Result, ok, refused, _>>=_, _>>_, require, without-value}
 use Rattle.logic.specs.Term.{Term}
 use Rattle.logic.specs.Scope.{Signature}
 use Rattle.logic.specs.Check.{check-statement}
 use Rattle.logic.proofs.Check.{check-statement-right}
 use Rattle.words.specs.Place.{Is}
-use Rattle.rules.specs.declared.derivation.Verdict.{Verdict}
-use Rattle.rules.specs.declared.derivation.Verdict.the-variants.{Passed, Refused as VerdictRefused}
-use Rattle.rules.specs.Form.{verdict-answer}
-use Rattle.typing.specs.Check.{without-value}
-use Rattle.typing.proofs.Verdicts.{refused-told, passed-told}
+use Rattle.words.specs.declared.verdict.Verdict.{Verdict}
+use Rattle.words.specs.declared.verdict.Verdict.the-variants.{Passed, Refused as VerdictRefused}
+use Rattle.words.specs.Verdict.{verdict-answer}
+use Rattle.words.proofs.Verdicts.{refused-told, passed-told}
 use Rattle.records.specs.Answers.{Room}
 use Rattle.search.specs.Answers.{miss-answer}
 use Rattle.search.specs.declared.statement.Missed.{Missed}

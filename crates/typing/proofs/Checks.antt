@@ -1,29 +1,23 @@
 -- Tests 6 to 12 on a term's words, one after the other.
-use Prim.Native.Nat.{ℕ, _+_, _≤_, _<_}
+use Prim.Native.Nat.{ℕ, _+_, _≤_}
 use native.Mathlib.Omega.{arith}
 use mathlib.Core.Path.{_≡_, refl, sym, ap, subst, _∙_}
-use mathlib.Core.Bool.{Bool, true, _&&_, and-false}
 use mathlib.Core.List.{List, []}
-use mathlib.Core.Option.{none}
-use lib.Dec.{leb}
 use lib.ListN.{length}
-use borrow.Author.Tests.{le-leb, lt-leb}
 use Rattle.logic.specs.Limits.{most-nesting}
-use Rattle.logic.specs.Refusals.{term-length, malformed, nesting}
-use Rattle.logic.specs.Result.{Result, ok, refused, _>>=_, _>>_, nowhere}
+use Rattle.logic.specs.Result.{Result, ok, refused, without-value}
 use Rattle.logic.specs.Term.{Term, size}
 use Rattle.logic.specs.Scope.{no-binder}
 use Rattle.logic.specs.Infer.{infer}
-use Rattle.logic.specs.Reading.{read-whole, too-deep}
-use Rattle.logic.proofs.Results.{pass, true-both}
-use Rattle.logic.proofs.Searches.{too-deep-right}
-use Rattle.logic.proofs.Stopped.{fail}
-use Rattle.words.specs.Place.{Is}
-use Rattle.words.specs.Parsing.{whole-end}
-use Rattle.words.specs.Nesting.{nested-to}
+use Rattle.logic.specs.Check.{term-of, WordsOf}
+use Rattle.logic.proofs.Results.{bind-is}
+use Rattle.logic.proofs.Stopped.{stop}
+use Rattle.logic.proofs.Check.{term-of-right}
+use Rattle.words.specs.Verdict.{verdict-answer}
+use Rattle.words.specs.declared.verdict.Verdict.{Verdict}
+use Rattle.words.specs.declared.verdict.Verdict.the-variants.{Passed}
 use Rattle.words.proofs.Places.{is-at, size-is}
-use Rattle.words.proofs.Parses.{whole-term, whole-malformed}
-use Rattle.words.proofs.Nestings.{past-is}
+use Rattle.words.proofs.Verdicts.{passed-told}
 use Rattle.rules.specs.Scope.{no-entries}
 use Rattle.rules.specs.Form.{type-and-end}
 use Rattle.typing.specs.Derive.{Derived, SubjectAt}
@@ -34,66 +28,41 @@ use Rattle.rules.specs.declared.derivation.Derivation.the-variants.{Refused}
 pub judged-refused : (o : Result Term) (end : ℕ) (new : List ℕ) (m p : ℕ) → o ≡ refused m p → Judged o end new (Refused m p)
 judged-refused o end new m p e = subst (λ (x : Result Term). Judged x end new (Refused m p)) (sym e) (record { answer = refl; front = tt })
 
-module _ (Σ : List Term) (most deep : ℕ) (ws new : List ℕ) where
-  pub empty-term : length ws < 1 → Judged (typed-term Σ most deep ws) (length ws) new (Refused term-length 0)
-  empty-term h =
-      judged-refused _ _ new term-length 0 (ap (λ x. x >>= λ t. infer Σ [] 0 t)
-      (fail term-length 0 _ (ap (λ (x : Bool). x && leb (length ws) most) (lt-leb 1 (length ws) h))))
+-- the tests before the derivation refuse
+pub refused-term : (Σ : List Term) (most deep : ℕ) (ws new : List ℕ) (m p : ℕ) → term-of most deep ws ≡ refused m p →
+    Judged (typed-term Σ most deep ws) (length ws) new (Refused m p)
+refused-term Σ most deep ws new m p e = judged-refused _ _ new m p (stop (λ t. infer Σ [] 0 t) e)
 
-  pub long-term : most < length ws → Judged (typed-term Σ most deep ws) (length ws) new (Refused term-length 0)
-  long-term h =
-      judged-refused _ _ new term-length 0 (ap (λ x. x >>= λ t. infer Σ [] 0 t)
-      (fail term-length 0 _
-      (ap (λ (x : Bool). leb 1 (length ws) && x) (lt-leb (length ws) most h) ∙ and-false (leb 1 (length ws)))))
-
-  module _ (some-word : 1 ≤ length ws) (not-more : length ws ≤ most) where
-    in-range : (leb 1 (length ws) && leb (length ws) most) ≡ true
-    in-range = true-both (le-leb 1 (length ws) some-word) (le-leb (length ws) most not-more)
-
-    pub malformed-term : (place : ℕ) → whole-end (read-whole ws) ≡ refused malformed place
-        → Judged (typed-term Σ most deep ws) (length ws) new (Refused malformed place)
-    malformed-term place e =
-        let h = whole-malformed ws place e in
-        judged-refused _ _ new malformed place (ap (λ x. x >>= λ t. infer Σ [] 0 t)
-        (pass term-length 0 in-range (ap (λ x. x >>= λ t. nowhere nesting (too-deep deep 0 t) >> ok t) h)))
-
-    module _ (t : Term) (is : read-whole ws ≡ ok t) where
-      read-term : typed-term Σ most deep ws ≡ ((nowhere nesting (too-deep deep 0 t) >> ok t) >>= λ t. infer Σ [] 0 t)
-      read-term = ap (λ x. x >>= λ t. infer Σ [] 0 t) (pass term-length 0 in-range (ap (λ x. x >>= λ t. nowhere nesting (too-deep deep 0 t) >> ok t) is))
-
-      pub deep-term : (place : ℕ) → nested-to deep 0 t ≡ refused nesting place → Judged (typed-term Σ most deep ws) (length ws) new (Refused nesting place)
-      deep-term place e =
-          let h = past-is deep 0 place t e in
-          judged-refused _ _ new nesting place (read-term ∙ ap (λ x. (nowhere nesting x >> ok t) >>= λ t. infer Σ [] 0 t) h)
-
-      -- a term that is not too deep is inferred
-      pub inferred-term : too-deep deep 0 t ≡ none → typed-term Σ most deep ws ≡ infer Σ [] 0 t
-      inferred-term h = read-term ∙ ap (λ x. (nowhere nesting x >> ok t) >>= λ t. infer Σ [] 0 t) h
-
--- the term that was read
-pub record TermIn (ws : List ℕ) : Type 0 where
+-- the term that passed them
+pub record TermIn (most deep : ℕ) (ws : List ℕ) : Type 0 where
   pub term : Term
-  pub read : read-whole ws ≡ ok term
-  pub is : Is ws term
+  pub passed : term-of most deep ws ≡ ok term
+  pub words : WordsOf most deep ws term
 
-pub term-in : (ws : List ℕ) (end : ℕ) → whole-end (read-whole ws) ≡ ok end → TermIn ws
-term-in ws end e = let (t, f, i, n) = whole-term ws end e in record { term = t; read = f; is = i }
+pub term-in : (most deep : ℕ) (ws : List ℕ) (r : Verdict) → verdict-answer r ≡ without-value (term-of most deep ws) → r ≡ Passed → TermIn most deep ws
+term-in most deep ws r e f =
+    let (t, i) = passed-told (term-of most deep ws) r e f in
+    record { term = t; passed = i; words = term-of-right most deep ws t .0 i }
 
 -- with no binders, a term that is not too deep is ready
-pub ready-term : (sig table proof ws : List ℕ) (deep : ℕ) (Σ : List Term) (t : Term) → ConstantsOf sig table Σ → Is proof t → too-deep deep 0 t ≡ none
+pub ready-term : (sig table proof ws : List ℕ) (most deep : ℕ) (Σ : List Term) (t : Term) → ConstantsOf sig table Σ → WordsOf most deep proof t
     → deep ≤ most-nesting → SubjectAt sig table proof ws 0 0 0 deep Σ [] t
-ready-term sig table proof ws deep Σ t C i h l = record {
+ready-term sig table proof ws most deep Σ t C w l = record {
   declared = C .declared;
   signature = C .signature;
   binders = no-entries;
   context = no-binder;
-  here = is-at i;
-  deep = too-deep-right t deep 0 .0 h;
+  here = is-at (record { plain = w .plain; words = w .words });
+  deep = w .nested;
   few = omega arith;
 }
 
-pub judged-term : (o o′ : Result Term) (ws old new : List ℕ) (t : Term) (r : Derivation) → o ≡ o′ → Is ws t → Derived o′ (0 + size t) 0 old new r
-    → Judged o (length ws) new r
-judged-term o o′ ws old new t r e i d =
-    let n : 0 + size t ≡ length ws = omega (arith, size-is ws t i) in
-    subst (λ (x : Result Term). Judged x (length ws) new r) (sym e) (record { answer = d .answer ∙ ap (type-and-end o′) n; front = d .front })
+-- the type of a term that passed is that of its derivation
+pub judged-term : (Σ : List Term) (most deep : ℕ) (ws old new : List ℕ) (T : TermIn most deep ws) (r : Derivation) →
+    Derived (infer Σ [] 0 (T .term)) (0 + size (T .term)) 0 old new r → Judged (typed-term Σ most deep ws) (length ws) new r
+judged-term Σ most deep ws old new T r d =
+    let w = T .words in
+    let n : 0 + size (T .term) ≡ length ws = omega (arith, size-is ws (T .term) (record { plain = w .plain; words = w .words })) in
+    let e : typed-term Σ most deep ws ≡ infer Σ [] 0 (T .term) = bind-is (λ t. infer Σ [] 0 t) (T .passed) refl in
+    subst (λ (x : Result Term). Judged x (length ws) new r) (sym e)
+    (record { answer = d .answer ∙ ap (type-and-end (infer Σ [] 0 (T .term))) n; front = d .front })

@@ -1,5 +1,4 @@
 -- The check in a lent workspace is right.
-pub mod Verdicts
 pub mod Tails
 pub mod Uniform
 pub mod Derives

@@ -7,7 +7,7 @@ use mathlib.Core.List.{List, []}
 use lib.ListN.{length}
 use Rattle.logic.specs.Limits.{most-type-words, most-statement-words, most-statement-nesting}
 use Rattle.logic.specs.Refusals.{condition-fails, type-too-long}
-use Rattle.logic.specs.Result.{Result, ok, refused, _>>=_, _>>_}
+use Rattle.logic.specs.Result.{Result, ok, refused, _>>=_, _>>_, without-value}
 use Rattle.logic.specs.Term.{Term, P, Name, Says, size}
 use Rattle.logic.specs.Infer.{infer, same, condition, measured}
 use Rattle.logic.specs.Check.{term-of, check-statement}
@@ -21,7 +21,7 @@ use Rattle.rules.specs.Form.{Front}
 use Rattle.rules.specs.declared.derivation.Derivation.{Derivation}
 use Rattle.rules.specs.declared.derivation.Derivation.the-variants.{Typed, Refused}
 use Rattle.rules.proofs.Fronts.{measured-fits, measured-long, typed-by, refused-by}
-use Rattle.typing.specs.Check.{typed-term, Judged, without-value}
+use Rattle.typing.specs.Check.{typed-term, Judged}
 
 module _ (Σ : List Term) (a : ℕ) where
   -- the tests that are left, of the proposition q of the type s

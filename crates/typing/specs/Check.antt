@@ -4,7 +4,7 @@ use mathlib.Core.Path.{_≡_}
 use mathlib.Core.List.{List, []}
 use lib.ListN.{length}
 use Rattle.logic.specs.Limits.{least-workspace, most-words, most-nesting}
-use Rattle.logic.specs.Result.{Result, ok, _>>=_, _>>_}
+use Rattle.logic.specs.Result.{Result, _>>=_}
 use Rattle.logic.specs.Term.{Term}
 use Rattle.logic.specs.Scope.{Signature}
 use Rattle.logic.specs.Infer.{infer}
@@ -34,7 +34,3 @@ typed-term Σ most deep ws = term-of most deep ws >>= λ t. infer Σ [] 0 t
 pub record Judged (o : Result Term) (end : ℕ) (new : List ℕ) (r : Derivation) : Type 0 where
   pub answer : derivation-answer r ≡ type-and-end o end
   pub front : Front o new
-
--- tests, whatever value they give
-abbrev pub without-value : {X : Type 0} → Result X → Result (Unit {0})
-without-value o = o >> ok tt

@@ -4,18 +4,12 @@ use logic::limit::MOST_STATEMENT_NESTING;
 use logic::limit::MOST_STATEMENT_WORDS;
 use logic::limit::MOST_TYPE_WORDS;
 use logic::refusal::CONDITION_FAILS;
-use logic::refusal::MALFORMED;
-use logic::refusal::NESTING;
-use logic::refusal::TERM_LENGTH;
 use logic::refusal::TYPE_TOO_LONG;
 use logic::word::PROP;
 use rules::derivation::Derivation;
-use rules::derivation::Verdict;
 use rules::front::front_is;
-use words::nesting::Nesting;
-use words::nesting::nested_whole;
-use words::read::Parse;
-use words::read::read_whole;
+use words::term::term_test;
+use words::verdict::Verdict;
 ghost use Prim.Native.Nat.{ℕ};
 ghost use lib.ListN.{length};
 ghost use mathlib.Core.Path.{_≡_};
@@ -23,8 +17,9 @@ ghost use mathlib.Core.List.{List};
 ghost use Rattle.logic.specs.Limits.{most-statement-words, most-statement-nesting};
 ghost use Rattle.logic.specs.Term.{Term};
 ghost use Rattle.logic.specs.Check.{check-statement};
-ghost use Rattle.rules.specs.Form.{verdict-answer};
-ghost use Rattle.typing.specs.Check.{ConstantsOf, Testable, typed-term, Judged, without-value};
+ghost use Rattle.words.specs.Verdict.{verdict-answer};
+ghost use Rattle.logic.specs.Result.{without-value};
+ghost use Rattle.typing.specs.Check.{ConstantsOf, Testable, typed-term, Judged};
 
 // Tests 6 to 12 of a term of at most `most` words, nested at most `deep`. Its type comes to the front of the workspace.
 pub fn check_term(
@@ -39,34 +34,11 @@ pub fn check_term(
     ensures { λ r. ⌜ ((Σ : List Term) → ConstantsOf (now (sig .entry)) (now (table .entry)) Σ
         → Judged (typed-term Σ most deep (now (term .entry))) (length (now (term .entry))) (now (ws .exit)) r) ⌝ }
 {
-    let len = term.len();
-    if len < 1 {
-        return Derivation::Refused {
-            number: TERM_LENGTH,
-            place: 0,
-        };
+    let tested = term_test(term, most, deep);
+    match tested {
+        Verdict::Refused { number, place } => Derivation::Refused { number, place },
+        Verdict::Passed => derive(sig, table, term, ws, 0, 0, 0, deep),
     }
-    if most < len {
-        return Derivation::Refused {
-            number: TERM_LENGTH,
-            place: 0,
-        };
-    }
-    let whole = read_whole(term);
-    if let Parse::Refused(place) = whole {
-        return Derivation::Refused {
-            number: MALFORMED,
-            place,
-        };
-    }
-    let nesting = nested_whole(term, deep);
-    if let Nesting::Past(place) = nesting {
-        return Derivation::Refused {
-            number: NESTING,
-            place,
-        };
-    }
-    derive(sig, table, term, ws, 0, 0, 0, deep)
 }
 
 // Tests 6 to 12 of a proposition as the term Sign: its places count from 0, and a fault at the added word

@@ -5,12 +5,15 @@ use crate::terms::TODAY;
 use crate::terms::UNTIL;
 use crate::terms::signature;
 use logic::limit::LEAST_WORKSPACE;
+use named::convert::Conversion;
+use named::convert::from_named;
+use named::convert::to_named;
 use records::format::COUNT;
 use records::format::HEADER;
 use records::format::LATEST;
 use records::format::USED;
-use rules::derivation::Verdict;
 use say::Said;
+use words::verdict::Verdict;
 
 pub(crate) fn heading(text: &[u8]) {
     io::write_all(1, text);
@@ -184,6 +187,30 @@ pub(crate) fn read_line(example: &[u8], register: &[u32], record: usize) {
     }
     print_words(body);
     io::write_all(1, b"\n");
+}
+
+// The output after the answer, and no more than the answer where the conversion is refused.
+fn print_conversion(example: &[u8], call: &[u8], conversion: Conversion, output: &[u32]) {
+    match conversion {
+        Conversion::Written(words) => {
+            print_answer(example, call, 0, 0);
+            io::write_all(1, b" words ");
+            io::print_decimal(1, words as u64);
+            print_words(output);
+        }
+        Conversion::Refused { number, place } => print_answer(example, call, number, place),
+    }
+    io::write_all(1, b"\n");
+}
+
+pub(crate) fn to_named_line(example: &[u8], term: &[u32], output: &mut [u32]) {
+    let conversion = to_named(term, output);
+    print_conversion(example, b"to_named", conversion, output);
+}
+
+pub(crate) fn from_named_line(example: &[u8], term: &[u32], output: &mut [u32]) {
+    let conversion = from_named(term, output);
+    print_conversion(example, b"from_named", conversion, output);
 }
 
 // The header of a register: its words used, its records and its latest day.

@@ -7,6 +7,7 @@ use crate::lines::check_line;
 use crate::lines::check_line_on;
 use crate::lines::check_line_with;
 use crate::lines::counts_line;
+use crate::lines::from_named_line;
 use crate::lines::heading;
 use crate::lines::open_line;
 use crate::lines::read_line;
@@ -14,6 +15,7 @@ use crate::lines::request_line;
 use crate::lines::request_line_on;
 use crate::lines::say_line;
 use crate::lines::say_line_on;
+use crate::lines::to_named_line;
 use crate::terms::A0;
 use crate::terms::A3;
 use crate::terms::C0;
@@ -41,6 +43,8 @@ use crate::terms::trust;
 use crate::terms::trusting;
 use logic::limit::LEAST_WORKSPACE;
 use logic::word::APP;
+use logic::word::LAM;
+use logic::word::PI;
 
 // "Rule r, a3 says App C2 s7": how each register here begins.
 fn begin(register: &mut [u32]) {
@@ -243,6 +247,30 @@ fn lapses(register: &mut [u32; 70]) {
     check_days(register);
 }
 
+// Document 02, slip 6: p with names, and p again.
+fn names() {
+    heading(b"The edition with named variables");
+    let p = proof();
+    let mut named = [0u32; 27];
+    to_named_line(b"p", &p, &mut named);
+    let mut back = [0u32; 27];
+    from_named_line(b"p with names", &named, &mut back);
+    let mut short = [0u32; 26];
+    to_named_line(b"25, p into 26 words", &p, &mut short);
+    nearest();
+}
+
+// "a name means the nearest binder that carries it"; a domain is not in the body.
+fn nearest() {
+    let mut words = [0u32; 5];
+    let twice = [LAM + 5, P, LAM + 5, V0 + 5, V0 + 5];
+    from_named_line(b"Lam5 P Lam5 V5 V5", &twice, &mut words);
+    let domain = [PI + 1, V0 + 1, P];
+    from_named_line(b"24, Pi1 V1 P", &domain, &mut words);
+    let signed = [LAM + 1, S, SIGN3, V0 + 1];
+    from_named_line(b"24, Lam1 S Sign3 V1", &signed, &mut words);
+}
+
 fn main() {
     let mut granted = [0u32; 70];
     grant(&mut granted);
@@ -256,4 +284,5 @@ fn main() {
     trusts(&mut trust_register);
     let mut dated = [0u32; 70];
     lapses(&mut dated);
+    names();
 }

@@ -16,7 +16,8 @@ use Rattle.number_file.specs.declared.Numbers.{Numbers}
 use Rattle.number_file.specs.declared.Numbers.the-variants.{Whole, Broken}
 use Rattle.number_file.specs.NumberFile.{file, fields, numbers-answer, ReadAs}
 use Rattle.number_file.proofs.Grammar.{file-length}
-use Rattle.homes.specs.Homes.{most-homes, most-rows, formed, joined, write-call, after-write, Wrote}
+use Rattle.words.specs.Place.{after-write}
+use Rattle.homes.specs.Homes.{most-homes, most-rows, formed, joined, write-call, Wrote}
 use Rattle.homes.proofs.Joins.{formed-facts}
 use Rattle.homes.proofs.Outputs.{joined-length}
 use Rattle.write_homes.specs.Printed.{home-line, home-code-line, most-list, most-table, given, written-homes, refusal, shown, printed}

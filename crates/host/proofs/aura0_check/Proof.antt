@@ -1,6 +1,5 @@
 -- Check, and its number and place as one number.
 use mathlib.Core.Path.{_∙_}
-use lib.ListN.{length}
 use Rattle.register.specs.Calls.{Lent, check-call}
 use Rattle.shared_tests.specs.Shared.{lent-of}
 use Rattle.host.proofs.Codes.{check-fits, handed-code}

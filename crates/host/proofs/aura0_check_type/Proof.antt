@@ -1,5 +1,4 @@
 -- Check, and its answer as one number, with how many words the type has.
-use lib.ListN.{length}
 use Rattle.logic.specs.Result.{Result}
 use Rattle.logic.specs.Term.{Term}
 use Rattle.register.specs.Calls.{Lent, check-call}

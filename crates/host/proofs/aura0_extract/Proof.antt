@@ -6,8 +6,8 @@ use lib.ListN.{length}
 use native.Mathlib.Omega.{arith}
 use borrow.Author.Needs.{needs}
 use Rattle.logic.specs.Result.{Result, refused}
-use Rattle.rules.specs.declared.derivation.Verdict.the-variants.{Refused}
-use Rattle.typing.proofs.Verdicts.{refused-told}
+use Rattle.words.specs.declared.verdict.Verdict.the-variants.{Refused}
+use Rattle.words.proofs.Verdicts.{refused-told}
 use Rattle.register.specs.Records.{Ask, ask-of}
 use Rattle.register.specs.Calls.{Lent}
 use Rattle.shared_tests.specs.Shared.{lent-of}

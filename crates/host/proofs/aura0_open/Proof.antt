@@ -1,11 +1,10 @@
 -- Open, and its answer as one number.
 use mathlib.Core.List.{List}
-use lib.ListN.{length}
 use Rattle.logic.specs.Result.{Result}
 use Rattle.register.specs.Records.{Record}
 use Rattle.register.specs.Calls.{Lent, open-call}
 use Rattle.shared_tests.specs.Shared.{lent-of}
-use Rattle.typing.proofs.Verdicts.{refused-told}
+use Rattle.words.proofs.Verdicts.{refused-told}
 use Rattle.host.proofs.Codes.{opened-code, refused-code, open-fits}
 use native.Mathlib.Omega.{arith}
 use borrow.Author.Needs.{needs}

@@ -1,5 +1,4 @@
 -- Request, and its answer as one number.
-use lib.ListN.{length}
 use Rattle.logic.specs.Result.{Result}
 use Rattle.register.specs.Records.{Ask, ask-of}
 use Rattle.register.specs.Calls.{Lent, request-call}

@@ -1,0 +1,2 @@
+-- The first two demands hold.
+pub mod Demands

@@ -1,0 +1,2 @@
+-- The first two demands, for all calls.
+pub mod Demands
