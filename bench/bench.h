@@ -1,4 +1,4 @@
-// What the benchmarks share: the clock, the least of the rounds, and calls that have to succeed.
+// What the benchmarks share: the clock, the least of the rounds, calls that have to succeed, and the nested proof.
 #ifndef AURA0_BENCH_H
 #define AURA0_BENCH_H
 
@@ -28,6 +28,22 @@ static inline void want(uint64_t answer)
         printf("refused: %u at %u\n", aura0_number(answer), aura0_place(answer));
         exit(1);
     }
+}
+
+// thirteen Binds, one in the other, each of p; the innermost returns its variable
+enum { NESTED_BINDS = 13, NESTED_WORDS = NESTED_BINDS * (1 + WORDS(proof)) + 3 };
+
+static inline void put_nested(uint32_t words[NESTED_WORDS])
+{
+    size_t n = 0;
+    for (int i = 0; i < NESTED_BINDS; i++) {
+        words[n++] = BIND;
+        for (size_t j = 0; j < WORDS(proof); j++)
+            words[n++] = proof[j];
+    }
+    words[n++] = RET;
+    words[n++] = NAME(0);
+    words[n++] = V(0);
 }
 
 #endif

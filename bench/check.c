@@ -22,23 +22,14 @@ static double nanoseconds(const uint32_t *term, size_t words, int times, uint32_
 
 int main(void)
 {
-    // thirteen Binds, one in the other, each of p; the innermost returns its variable
-    static uint32_t nested[13 * (1 + WORDS(proof)) + 3];
-    size_t n = 0;
-    for (int i = 0; i < 13; i++) {
-        nested[n++] = BIND;
-        for (size_t j = 0; j < WORDS(proof); j++)
-            nested[n++] = proof[j];
-    }
-    nested[n++] = RET;
-    nested[n++] = NAME(0);
-    nested[n++] = V(0);
+    static uint32_t nested[NESTED_WORDS];
+    put_nested(nested);
     // an empty term is refused by 6, just after the signature
     double signature_alone = nanoseconds(proof, 0, 200000, AURA0_TERM_LENGTH);
     double small = nanoseconds(LIST(proof), 200000, 0);
-    double large = nanoseconds(nested, n, 20000, 0);
+    double large = nanoseconds(LIST(nested), 20000, 0);
     printf("signature, %zu words: %.0f ns\n", WORDS(signature), signature_alone);
     printf("p, %zu words: %.0f ns with the signature, %.0f ns without\n", WORDS(proof), small, small - signature_alone);
-    printf("nested proof, %zu words: %.0f ns with the signature, %.0f ns without\n", n, large, large - signature_alone);
+    printf("nested proof, %zu words: %.0f ns with the signature, %.0f ns without\n", WORDS(nested), large, large - signature_alone);
     return 0;
 }

@@ -1,11 +1,19 @@
 // Document 01's worked register, with days, by the calls of include/aura0.h: prints what each call answers, and lists
-// the records.
+// the records. Then p in the edition with named variables.
 #include <stdio.h>
 #include "sample.h"
 
 static void print(const char *call, uint64_t answer)
 {
     printf("%s: %u at %u\n", call, aura0_number(answer), aura0_place(answer));
+}
+
+static void print_words(const char *what, const uint32_t *words, size_t length)
+{
+    printf("%s", what);
+    for (size_t i = 0; i < length; i++)
+        printf(" %08x", words[i]);
+    printf("\n");
 }
 
 // The calls of a day print it first, and the words used and the latest day behind.
@@ -77,6 +85,21 @@ static void list(const uint32_t *words, size_t length)
     }
 }
 
+// p into names, first into an output of a word less; back; and p itself taken for a term with names.
+static void convert(void)
+{
+    uint32_t named[WORDS(proof)], back[WORDS(proof)];
+    size_t written;
+    print("p into names", aura0_to_named(LIST(proof), named, WORDS(named) - 1, &written));
+    print_words("written", named, written);
+    print("p into names", aura0_to_named(LIST(proof), LIST(named), &written));
+    print_words("written", named, written);
+    print("p from names", aura0_from_named(LIST(named), LIST(back), &written));
+    print_words("written", back, written);
+    print("p as names", aura0_from_named(LIST(proof), LIST(back), &written));
+    print_words("written", back, written);
+}
+
 int main(void)
 {
     static uint32_t words[70], fewer[69], more[111];
@@ -86,10 +109,7 @@ int main(void)
     list(words, 70);
     print("check p", aura0_check(LIST(signature), OPERATIONS, LIST(words), DAY, LIST(proof), LIST(workspace)));
     print("check p", aura0_check_type(LIST(signature), OPERATIONS, LIST(words), DAY, LIST(proof), LIST(workspace), &type_words));
-    printf("type");
-    for (size_t i = 0; i < type_words; i++)
-        printf(" %08x", workspace[i]);
-    printf("\n");
+    print_words("type", workspace, type_words);
 
     // what a3 says stands there already, and the latest day moves on; then it has lapsed; then a day before the latest
     say(words, 70, SAY_LAST);
@@ -104,5 +124,7 @@ int main(void)
     extract(more, 111, 6);
     extract(more, 111, 6);
     list(more, 111);
+
+    convert();
     return 0;
 }

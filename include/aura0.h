@@ -1,11 +1,11 @@
-// The calls of the permission register for programs in C. The library is target/staticlib/libhost.a;
-// `bash host/run` builds it.
+// The calls of the permission register, and the converters of the edition with named variables, for programs in C. The
+// library is target/staticlib/libhost.a; `bash host/run` builds it.
 //
 // Each list of 32-bit words is lent as a pointer and a number of words; the pointer is not null, also where the
 // number is 0. Buffers that are written must not overlap any other buffer of the call.
 // An answer is 0 for success, else the refusal's number times 4294967296 plus its place (0 where none is named).
-// A refusal leaves the register as it was. The workspace needs at least 12,288 words, and what it holds after a call
-// is free, except for a type handed back.
+// A refusal leaves the register and an output as they were. The workspace, where a call has one, needs at least 12,288
+// words, and what it holds after a call is free, except for a type handed back.
 #ifndef AURA0_H
 #define AURA0_H
 
@@ -43,7 +43,10 @@ enum {
     AURA0_REGISTER_FULL = 16,       // words used and the new entry's together pass the register's length
     AURA0_PAST_LAST_RECORD = 17,    // read past the last record
     // document 02, slip 3: before every test of the table
-    AURA0_OUT_OF_FORM = 21          // an extract's list of homes, table of surveys or output out of form
+    AURA0_OUT_OF_FORM = 21,         // an extract's list of homes, table of surveys or output out of form
+    // document 02, slip 6: of the two converters alone, after 6 to 8, in this order
+    AURA0_UNBOUND = 24,             // unbound name or variable; place: the first such word
+    AURA0_OUTPUT_SHORT = 25         // output shorter than the term
 };
 
 // What stands for the code of a home without a survey.
@@ -51,7 +54,7 @@ enum {
 
 // A call takes less stack than this, in bytes; the frames of its caller are the host's own and come on top. No proof
 // speaks of the stack: tests/stack.c measures it. The deepest is the reading of 2,048 words App, each within the one
-// before.
+// before, by a converter.
 #define AURA0_STACK 262144
 
 // The kinds of records.
@@ -104,6 +107,22 @@ uint64_t aura0_check(const uint32_t *signature, size_t signature_words, uint32_t
 uint64_t aura0_check_type(const uint32_t *signature, size_t signature_words, uint32_t n, const uint32_t *register_, size_t register_words,
                           uint32_t day, const uint32_t *term, size_t term_words,
                           uint32_t *workspace, size_t workspace_words, size_t *type_words);
+
+// The edition with named variables. There a Pi, a Lam and a Bind have a name as payload, any number of 24 bits, and a
+// variable has a name for its number: it means the nearest binder with that name in whose body it stands. A domain, and
+// the proof of a Bind, are not in the body, and a Sign's proposition starts with no names. All else is as in document
+// 01's words, and a term has as many words in either edition.
+// The two converters have no register and no workspace. They make the tests 6 to 8 first; then 24, at the first word
+// that is an unbound name or variable; then 25, at 0, for an output shorter than the term. The result stands at the
+// front of the output, whose words past it are unchanged; a refusal writes nothing. *written is how many words were
+// written, 0 where refused.
+
+// Converts document 01's words into names: a binder's name is the count of binders in whose body it stands, within its
+// Sign if any.
+uint64_t aura0_to_named(const uint32_t *term, size_t term_words, uint32_t *output, size_t output_words, size_t *written);
+
+// Converts names into document 01's words.
+uint64_t aura0_from_named(const uint32_t *term, size_t term_words, uint32_t *output, size_t output_words, size_t *written);
 
 // Reads a record: its kind, and its body as the *words words of the register from *start on; all three are 0 where
 // refused.

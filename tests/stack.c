@@ -13,9 +13,10 @@
 enum { PAGE = 4096, PAINT = 0xa5 };
 enum { MOST_WORDS = 2048, MOST_CONSTANT_WORDS = 256, MOST_NESTING = 32, HOMES = 1024, ROWS = 4096 };
 
-enum call { OPEN, SAY, REQUEST, EXTRACT, CHECK, CHECK_TYPE, READ, CALLS };
+enum call { OPEN, SAY, REQUEST, EXTRACT, CHECK, CHECK_TYPE, TO_NAMED, FROM_NAMED, READ, CALLS };
 static const char *const names[CALLS] = {
-    "aura0_open", "aura0_say", "aura0_request", "aura0_extract", "aura0_check", "aura0_check_type", "aura0_read"
+    "aura0_open", "aura0_say", "aura0_request", "aura0_extract", "aura0_check", "aura0_check_type", "aura0_to_named",
+    "aura0_from_named", "aura0_read"
 };
 
 // room for a signature, a term, or a rule: four words and a statement, which has one word less than a term
@@ -52,6 +53,10 @@ static uint64_t make(enum call call, const struct input *in)
         return aura0_check(STATE, DAY, LENT(in->proof), LIST(workspace));
     case CHECK_TYPE:
         return aura0_check_type(STATE, DAY, LENT(in->proof), LIST(workspace), &length);
+    case TO_NAMED:
+        return aura0_to_named(LENT(in->proof), LIST(output), &length);
+    case FROM_NAMED:
+        return aura0_from_named(LENT(in->proof), LIST(output), &length);
     default:
         return aura0_read(LIST(words), 5, &one, &start, &length);
     }
@@ -159,17 +164,45 @@ static void put_derivation(struct list *to, uint32_t deep)
     PUT(to, RET, NAME(0), V(1));
 }
 
+// A term of so many words that nests little.
+static void put_flat(struct list *to, size_t count)
+{
+    if (count > 2) {
+        PUT(to, APP);
+        put_flat(to, (count - 1) / 2);
+        put_flat(to, count / 2);
+    } else if (count == 2)
+        PUT(to, SIGN(0), P);
+    else
+        PUT(to, P);
+}
+
+// A term of so many words nested `deep`, in either edition: App l t, where l is Lams, each the body of the one before.
+// The last one's body is V0, its variable; with names all of them have the name 0, and V0 means the nearest.
+static void put_lams(struct list *to, size_t count, uint32_t deep)
+{
+    PUT(to, APP);
+    for (uint32_t i = 0; i < deep - 2; i++)
+        PUT(to, LAM, P);
+    PUT(to, V(0));
+    put_flat(to, count - 2 * deep + 2);
+}
+
 int main(void)
 {
     // words App, which are read each within the one before, as a term and as a constant's type; the derivation, which
-    // proves another proposition than is requested, and is none where one is said; document 01's register
+    // proves another proposition than is requested, is none where one is said, and has unbound variables where they are
+    // taken for names; Lams as deep as a term nests, with as many words as it has, of which the last Lam breaks its
+    // rule; document 01's register
     static struct input inputs[] = {
-        { .name = "App", .numbers = { 7, 7, 7, 7, 7, 7 } },
-        { .name = "constant", .numbers = { 4, 4, 4, 4, 4, 4 } },
-        { .name = "derivation", .numbers = { 11, 11, 13, 13, 0, 0 } },
-        { .name = "sample", .numbers = { 0 } },
+        { .name = "App", .numbers = { 7, 7, 7, 7, 7, 7, 7, 7 } },
+        { .name = "constant", .numbers = { 4, 4, 4, 4, 4, 4, 7, 7 } },
+        { .name = "derivation", .numbers = { 11, 11, 13, 13, 0, 0, 0, 24 } },
+        { .name = "Lam", .numbers = { 11, 11, 11, 11, 11, 11, 0, 0 } },
+        { .name = "sample", .numbers = { [FROM_NAMED] = 24 } },
     };
-    struct input *reading = &inputs[0], *constant = &inputs[1], *derivation = &inputs[2], *sample = &inputs[3], *end = sample + 1;
+    struct input *reading = &inputs[0], *constant = &inputs[1], *derivation = &inputs[2], *lams = &inputs[3];
+    struct input *sample = &inputs[4], *end = sample + 1;
     size_t most = 0;
 
     for (struct input *in = inputs; in < end; in++)
@@ -180,11 +213,13 @@ int main(void)
     put(&constant->signature, LENT(constant->proof));
     put_constants(&derivation->signature);
     put_derivation(&derivation->proof, MOST_NESTING);
+    put_lams(&lams->proof, MOST_WORDS, MOST_NESTING);
     put(&sample->proof, LIST(proof));
     // a statement has a word less and nests one less, for the word Sign; a rule is one behind its principal, days and
     // length
     put_times(&reading->statement, MOST_WORDS - 1, APP);
     put_derivation(&derivation->statement, MOST_NESTING - 1);
+    put_lams(&lams->statement, MOST_WORDS - 1, MOST_NESTING - 1);
     put(&sample->statement, LIST(proposition));
     for (struct input *in = inputs; in < sample; in++) {
         PUT(&in->rules, 0, RULE_FIRST, RULE_LAST, in->statement.length);

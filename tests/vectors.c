@@ -3,7 +3,7 @@
 // each wrong answer with its file and line. The exit status is 1 where an answer was wrong or a file compared none.
 // After each call it also compares what was lent with what it was before: the signature and the term, the register
 // where it may not change (where a say adds nothing, only its latest day may), the register's words past the used
-// count, an output's words past the last home, and the words behind each buffer.
+// count, an output's words past the result, all of them where refused, and the words behind each buffer.
 #define _POSIX_C_SOURCE 200809L
 #include <stdarg.h>
 #include <stdio.h>
@@ -13,7 +13,7 @@
 #include "../include/aura0.h"
 
 // the level in force: requests 1 to LEVEL of document 02 (request 4 changed no answer, so it has no level of its own)
-enum { LEVEL = 5, MOST = 1 << 21, GUARD = 16, PATTERN = 0x5a5a5a5a };
+enum { LEVEL = 6, MOST = 1 << 21, GUARD = 16, PATTERN = 0x5a5a5a5a };
 
 // a lent list of words, with a guard behind it, and what it held before the call
 struct lent {
@@ -197,6 +197,33 @@ static struct ask read_ask(const char **rest)
     return ask;
 }
 
+// after a call with an output: its words past the result may not change
+static void take_back_output(size_t result)
+{
+    if (result > output.length)
+        stop("more words written than there are");
+    same_from(&output, result, "output");
+}
+
+typedef uint64_t converter(const uint32_t *term, size_t term_words, uint32_t *output, size_t output_words, size_t *written);
+
+// makes the call of a converter, and puts its answer; the result has as many words as the term
+static void convert(const char *name, converter *to, const char *rest)
+{
+    size_t written = PATTERN;
+    fill(&output, read_number(&rest, MOST), PATTERN);
+    keep(&output);
+    lend(0, rest);
+    uint64_t code = to(LENT(term), LENT(output), &written);
+    size_t result = code == 0 ? term.length : 0;
+    take_back(NOTHING);
+    take_back_output(result);
+    if (written != result)
+        wrong_answer("as many words written as there are in the result", "another number", 14);
+    put("%s %u %u", name, aura0_number(code), aura0_place(code));
+    put_words(output.words, result);
+}
+
 // makes the call of a line, and puts its answer; whether the line was one
 static int call(const char *line)
 {
@@ -240,11 +267,13 @@ static int call(const char *line)
         same_from(&homes, 0, "list of homes");
         same_from(&surveys, 0, "table of surveys");
         size_t result = code == 0 ? 2 * homes.length : 0;
-        if (result > output.length)
-            stop("more words written than there are");
-        same_from(&output, result, "output");
+        take_back_output(result);
         put("extract %u %u", aura0_number(code), aura0_place(code));
         put_words(output.words, result);
+    } else if ((rest = after(line, "tonamed")) != NULL) {
+        convert("tonamed", aura0_to_named, rest);
+    } else if ((rest = after(line, "fromnamed")) != NULL) {
+        convert("fromnamed", aura0_from_named, rest);
     } else if ((rest = after(line, "check")) != NULL) {
         size_t words = read_number(&rest, MOST), type_words = PATTERN;
         uint32_t day = read_number(&rest, UINT32_MAX);
