@@ -46,16 +46,6 @@ relabel e false ns = tt
 relabel Names true ns = 0
 relabel Counts true ns = length ns
 
--- the names that d binders of document 01's edition get, nearest first
-unfoldable pub upto : ℕ → List ℕ
-upto zero = []
-upto (suc d) = d ∷ upto d
-
--- the names in scope are as a conversion from the edition has them
-abbrev pub ScopeOf : Edition → List ℕ → Type 0
-ScopeOf Names ns = Unit {0}
-ScopeOf Counts ns = ns ≡ upto (length ns)
-
 -- ---- the conversion of a term that begins at a place
 
 -- from the edition e into the other. "A Sign's proposition starts with no names"; a domain, and the proof of a Bind,
@@ -115,3 +105,15 @@ to-named ws room = do
 abbrev pub converted : Edition → List ℕ → ℕ → Result (List ℕ)
 converted Names ws room = from-named ws room
 converted Counts ws room = to-named ws room
+
+-- ---- what the names in scope are, for the laws and the code
+
+-- the names that d binders of document 01's edition get, nearest first
+unfoldable pub upto : ℕ → List ℕ
+upto zero = []
+upto (suc d) = d ∷ upto d
+
+-- the names in scope are as a conversion from the edition has them
+abbrev pub ScopeOf : Edition → List ℕ → Type 0
+ScopeOf Names ns = Unit {0}
+ScopeOf Counts ns = ns ≡ upto (length ns)

@@ -255,8 +255,8 @@ pub extern "C" fn aura0_from_named(term: &[u32], output: &mut [u32], written: &m
 {
     let conversion = from_named(term, output);
     match conversion {
-        Conversion::Written(words) => {
-            *written = words;
+        Conversion::Written(count) => {
+            *written = count;
             0
         }
         Conversion::Refused { number, place } => {
