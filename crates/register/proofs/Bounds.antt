@@ -1,7 +1,7 @@
 -- Every refusal of a call on the register has one of the numbers that documents 01 and 02 give it, and a
 -- place within what was lent.
-use Prim.Native.Nat.{ℕ, zero, suc, _+_, _≤_}
-use mathlib.Core.Path.{_≡_, refl, sym, ap, _∙_}
+use Prim.Native.Nat.{ℕ, zero, suc, _+_, _≤_, _<_}
+use mathlib.Core.Path.{_≡_, refl, sym, ap, _∙_, subst}
 use mathlib.Core.Logic.{_≢_}
 use mathlib.Core.Bool.{Bool, true, false, _&&_, not, cond}
 use mathlib.Core.List.{List, [], _∷_, _++_}
@@ -12,7 +12,7 @@ use lib.ListN.{length, take, drop, getElem?, length-drop, length-append}
 use borrow.Author.Tests.{leb-true}
 use Rattle.logic.specs.Limits.{most-type-words, most-words, most-nesting, most-statement-words, most-statement-nesting}
 use Rattle.logic.specs.Limits.{least-workspace, most-register, most-constants, most-constant-words}
-use Rattle.logic.specs.Refusals.{bad-signature, malformed, out-of-form, not-held, held-outside, day-before-latest}
+use Rattle.logic.specs.Refusals.{bad-signature, bad-number, malformed, out-of-form, not-held, held-outside, day-before-latest}
 use Rattle.logic.specs.Result.{Result, ok, refused, _>>=_, _>>_, require, known, nowhere}
 use Rattle.logic.specs.Term.{propA, typeA, stringA, prinA, kindPA, kindTA, constA, textA, nameA, saysO, piO, lamO, appO}
 use Rattle.logic.specs.Term.{retO, bindO, Atom, Term, atom, var, sign, node, P, N, Name, Says, Pi, encode, size}
@@ -31,10 +31,13 @@ use Rattle.logic.proofs.Places.{stands-words}
 use Rattle.register.specs.Records.{Record, Statement, Ask, Content, Holds, covered, lapsed, unheld, Next, ended, cut, whole, header, rule-head}
 use Rattle.register.specs.Records.{no-kind, used, count, latest, records, recorded, register-content, statements, holding, words-of, next-rule}
 use Rattle.register.specs.Calls.{Lent, Outline, View, outline-of, fresh-outline, Holding, length-test, shared, sign-refusal, unmissed, signs-held}
-use Rattle.register.specs.Calls.{fits, check-own, check-call, statement-test, say-own, say-call, permission}
+use Rattle.register.specs.Calls.{on-register, day-test, after-request, fits, check-own, check-call, statement-test, say-own, say-call, permission}
 use Rattle.register.specs.Calls.{say-entry, entry, ask-test, request-own, request-call}
 use Rattle.register.specs.Calls.{at-rule, with-rule, rule-numbers, rule-own, opening, open-own, new-content, open-call, read-call}
+use Rattle.register.specs.Batch.{most-items, NextItem, no-item, cut-item, whole-item, next-item, item-before, item-list, items}
+use Rattle.register.specs.Batch.{Batched, all-granted, refused-at, at-index, in-turn, items-call, batch-call}
 use Rattle.register.proofs.Opening.{next-rule-rest}
+use Rattle.register.proofs.Batch.{next-item-rest}
 
 -- a refusal number of document 01 or 02, of a call on the register: 21 is the extract desk's alone, and those above 23
 -- are of calls without a register
@@ -337,13 +340,72 @@ pub say-bound : (l : Lent) (reg : List ℕ) (day : ℕ) (st : Statement) {m p : 
 say-bound l reg day st e =
     bounded-refusal (shared-within l (outline-of reg) (register-content reg) (say-own day st) (content-within reg) (say-own-within day st)) e
 
+request-within : (l : Lent) (reg : List ℕ) (k : Ask) → Within (length (l .sig) + length (k .proof)) (request-call l reg k)
+request-within l reg k = shared-within l (outline-of reg) (register-content reg) (request-own k) (content-within reg) (request-own-within k)
+
 pub request-bound : (l : Lent) (reg : List ℕ) (k : Ask) {m p : ℕ} → request-call l reg k ≡ refused m p → Number m × (p ≤ length (l .sig) + length (k .proof))
-request-bound l reg k e =
-    bounded-refusal (shared-within l (outline-of reg) (register-content reg) (request-own k) (content-within reg) (request-own-within k)) e
+request-bound l reg k e = bounded-refusal (request-within l reg k) e
 
 pub open-bound : (l : Lent) (reg rules : List ℕ) {m p : ℕ} → open-call l reg rules ≡ refused m p → Number m × (p ≤ length (l .sig) + length rules)
 open-bound l reg rules e = bounded-refusal (shared-within l (fresh-outline (length reg)) (ok (new-content [])) (open-own rules) passed
     (open-own-within rules)) e
+
+-- a batch's refusal is at an index below 16, and has such a number and place
+data BatchWithin (bound : ℕ) : Batched → Type 0 where
+  all-passed : BatchWithin bound all-granted
+  index-within : {i m p : ℕ} → i < most-items → Number m → p ≤ bound → BatchWithin bound (refused-at i m p)
+
+at-index-within : {bound : ℕ} (i : ℕ) (r : Result (Unit {0})) (rest : Batched) → i < most-items → Within bound r → BatchWithin bound rest →
+    BatchWithin bound (at-index i r rest)
+at-index-within i (ok _) rest l h k = k
+at-index-within i (refused m p) rest l (place-within a b) k = index-within l a b
+
+-- the items of words that are among n
+in-turn-within : (l : Lent) (n b day i : ℕ) (reg ws : List ℕ) → length ws ≤ n → i + length (item-list b day ws) ≤ most-items →
+    BatchWithin (length (l .sig) + n) (in-turn l i reg (item-list b day ws))
+unfolding item-list in-turn
+in-turn-within l n zero day i reg ws h most = all-passed
+in-turn-within l n (suc b) day i reg ws h most = go (next-item day ws) refl most (in-turn-within l n b day)
+  where
+    go : (x : NextItem) → next-item day ws ≡ x → i + length (item-before (item-list b day) x) ≤ most-items →
+        ((i : ℕ) (reg ws : List ℕ) → length ws ≤ n → i + length (item-list b day ws) ≤ most-items →
+        BatchWithin (length (l .sig) + n) (in-turn l i reg (item-list b day ws))) →
+        BatchWithin (length (l .sig) + n) (in-turn l i reg (item-before (item-list b day) x))
+    go no-item e most ih = all-passed
+    go cut-item e most ih = index-within {i = i} {m = malformed} {p = 0} (omega arith) (omega arith) (omega arith)
+    go (whole-item k rest) e most ih =
+        let size = next-item-rest day ws e in
+        at-index-within i (request-call l reg k) _ (omega arith) (wider (omega arith) (request-within l reg k))
+        (ih (suc i) (after-request (request-call l reg k) reg k) rest (omega arith) (omega arith))
+
+batch-within : (l : Lent) (reg : List ℕ) (day : ℕ) (ws : List ℕ) → BatchWithin (length (l .sig) + length ws) (batch-call l reg day ws)
+batch-within l reg day ws = go (leb (length (items day ws)) most-items) refl (items day ws) refl
+  where
+    bound : ℕ
+    bound = length (l .sig) + length ws
+
+    day-within : (v : View) → Within (length ws) (day-test day v)
+    day-within v = require-within (leb (v .latest) day) _ 0 (omega arith) (omega arith)
+
+    go : (b : Bool) → leb (length (items day ws)) most-items ≡ b → (xs : List (Option Ask)) → items day ws ≡ xs →
+        BatchWithin bound (cond b (items-call l reg day xs) (refused-at 0 bad-number 0))
+    go false h xs e = index-within {i = 0} {m = bad-number} {p = 0} (omega arith) (omega arith) (omega arith)
+    go true h [] e = at-index-within 0 (on-register l reg (day-test day)) all-granted (omega arith)
+        (shared-within l (outline-of reg) (register-content reg) (day-test day) (content-within reg) day-within) all-passed
+    go true h (x ∷ xs) e = subst (λ xs. BatchWithin bound (in-turn l 0 reg xs)) e
+        (in-turn-within l (length ws) (length ws) day 0 reg ws (omega arith) (omega (arith, leb-true (length (items day ws)) most-items h)))
+
+pub batch-bound : (l : Lent) (reg : List ℕ) (day : ℕ) (ws : List ℕ) {i m p : ℕ} → batch-call l reg day ws ≡ refused-at i m p →
+    (i < most-items) × Number m × (p ≤ length (l .sig) + length ws)
+batch-bound l reg day ws {i} {m} {p} e = go (batch-call l reg day ws) (batch-within l reg day ws) e
+  where
+    go : {bound : ℕ} (b : Batched) → BatchWithin bound b → b ≡ refused-at i m p → (i < most-items) × Number m × (p ≤ bound)
+    go all-granted all-passed e = absurd (clash (cc))
+    go (refused-at i′ m′ p′) (index-within h n k) e =
+        let f : i′ ≡ i = cc in
+        let g : m′ ≡ m = cc in
+        let d : p′ ≡ p = cc in
+        (omega arith, omega arith, omega arith)
 
 -- read names no place
 read-within-none : (reg : List ℕ) (k : ℕ) → Within 0 (read-call reg k)

@@ -16,10 +16,10 @@ use Rattle.logic.proofs.Results.{not-ok, bound, tested, bind-is, pass, both-tru
 use Rattle.logic.proofs.Signatures.{empty-signature}
 use Rattle.logic.proofs.Refused.{inside}
 use Rattle.logic.specs.SignatureList.{Lists, signature, operations, operations-test}
-use Rattle.register.specs.Records.{Record, Content, header, register-content, Unbroken, statements, holding}
+use Rattle.register.specs.Records.{Record, Content, header, register-content, Unbroken, used-by, statements, holding}
 use Rattle.register.specs.Calls.{Lent, Outline, View, view, shared, outline-of, on-register, signs-held}
 use Rattle.register.specs.Succeeds.{Ready, SignsHeld}
-use Rattle.register.proofs.Words.{unbroken-right}
+use Rattle.register.proofs.Words.{unbroken-right, Stores, stores-content, stores-used}
 use Rattle.register.proofs.Held.{holding-covered, signs-ok}
 use Rattle.register.specs.History.{Setting, lent}
 use Rattle.logic.proofs.SignatureList.{well-formed, signature-right, operations-ok, ok-operations}
@@ -102,3 +102,12 @@ signs-right day rs t = (
   (λ e n q i. holding-covered day rs n (encode q) .0 (signs-ok (holding day (statements rs)) t .0 e n q i)),
   λ h. signs-ok (holding day (statements rs)) t .1 (λ n q i. holding-covered day rs n (encode q) .1 (h n q i)),
 )
+
+-- the outline of a register of the length len with the content c
+abbrev pub outlined : ℕ → Content → Outline
+outlined len c = record { size = len; used = used-by (c .records) }
+
+-- a verdict on a register whose content is known
+pub stored : {Y : Type 0} {len : ℕ} {c : Content} {reg : List ℕ} → Stores len c reg → (l : Lent) (own : View → Result Y) →
+    on-register l reg own ≡ shared l (outlined len c) (ok c) own
+stored st l own = λ i. shared l (record { size = st .size i; used = stores-used st i }) (stores-content st i) own

@@ -3,11 +3,13 @@
 use Prim.Native.Nat.{ℕ}
 use mathlib.Core.Path.{_≡_}
 use mathlib.Core.Bool.{true, false}
-use mathlib.Core.List.{List, _++_}
+use mathlib.Core.List.{List, _∷_, _++_, map}
+use mathlib.Core.Option.{some}
 use lib.ListN.{length, drop}
-use Rattle.register.specs.Records.{Record, Statement, Ask, Unbroken, used}
+use Rattle.register.specs.Records.{Record, Statement, Ask, Content, Unbroken, used}
 use Rattle.register.specs.Calls.{Lent, say-entry, entry, open-call, after-open, say-call, after-say, request-call, after-request}
-use Rattle.register.specs.Succeeds.{Openable, Sayable, Grantable}
+use Rattle.register.specs.Batch.{ItemsOf, batch-leaves, entries}
+use Rattle.register.specs.Succeeds.{Openable, Sayable, Grantable, Batchable}
 
 -- the register has the latest day and the records, and "words past the new used count are unchanged"
 pub record Leaves (old : List ℕ) (day : ℕ) (rs : List Record) (new : List ℕ) : Type 0 where
@@ -26,3 +28,7 @@ pub record Leaving : Type 0 where
   -- a request adds grant and receipt, and sets the latest day
   pub granted : {l : Lent} {reg : List ℕ} {k : Ask} (h : Grantable l reg k) →
       Leaves reg (k .day) (h .proof .content .records ++ entry k) (after-request (request-call l reg k) reg k)
+  -- a batch adds the grant and the receipt of each request in turn, and sets the latest day; that an empty one leaves
+  -- every word is said in Batches
+  pub batched : {l : Lent} {reg : List ℕ} {day : ℕ} {ws : List ℕ} {c : Content} (k : Ask) (ks : List Ask) → ItemsOf day ws (map some (k ∷ ks)) →
+      Batchable l reg day (map some (k ∷ ks)) → Unbroken reg c → Leaves reg day (c .records ++ entries (k ∷ ks)) (batch-leaves l reg day ws)

@@ -16,8 +16,9 @@ use Rattle.logic.specs.Reading.{Embedded}
 use Rattle.logic.specs.Check.{Passes, Stated}
 use Rattle.logic.specs.SignatureList.{Lists, permit, receipt-of}
 use Rattle.register.specs.Records.{Record, Statement, Ask, Content, whole, header, Unbroken, used, used-by, words-of, Held, States, statement, rule-kind}
-use Rattle.register.specs.Records.{next-rule}
+use Rattle.register.specs.Records.{next-rule, appended}
 use Rattle.register.specs.Calls.{Lent, permission, say-entry, entry, check-call, say-call, request-call, open-call}
+use Rattle.register.specs.Batch.{most-items, ItemsOf, all-granted, batch-call}
 
 -- what every call but read needs of what it is lent; Σ are the
 -- constants' types, and then a signature in the sense of Scope
@@ -55,6 +56,25 @@ pub record Grantable (l : Lent) (reg : List ℕ) (k : Ask) : Type 0 where
   pub proof : Checkable l reg (k .day) (k .proof) (permission k)
   pub not-before : proof .content .latest ≤ k .day
   pub room : used reg + length (words-of (entry k)) ≤ length reg
+
+-- requests that are granted one after another, each on the register that those before it leave
+pub data GrantableInTurn (l : Lent) : List ℕ → List (Option Ask) → Type 0 where
+  no-request : {reg : List ℕ} → GrantableInTurn l reg []
+  one-request : {reg : List ℕ} {k : Ask} {xs : List (Option Ask)} → Grantable l reg k → GrantableInTurn l (appended reg (k .day) (entry k)) xs →
+      GrantableInTurn l reg (some k ∷ xs)
+
+-- an empty batch succeeds
+pub record Idle (l : Lent) (reg : List ℕ) (day : ℕ) : Type 0 where
+  pub content : Content
+  pub unbroken : Unbroken reg content
+  pub Σ : List Term
+  pub ready : Ready l (length reg) Σ
+  pub not-before : content .latest ≤ day
+
+-- a batch of the items succeeds
+pub data Batchable (l : Lent) (reg : List ℕ) (day : ℕ) : List (Option Ask) → Type 0 where
+  empty : Idle l reg day → Batchable l reg day []
+  together : {x : Option Ask} {xs : List (Option Ask)} → length (x ∷ xs) ≤ most-items → GrantableInTurn l reg (x ∷ xs) → Batchable l reg day (x ∷ xs)
 
 -- what a say adds: nothing where the statement stands with the same days, and else it has to fit
 pub data Adds (rs : List Record) (reg : List ℕ) (st : Statement) : Bool → Type 0 where
@@ -103,6 +123,8 @@ pub record Openable (l : Lent) (reg rules : List ℕ) (rs : List Record) : Type 
 pub record Demand2 : Type 0 where
   pub checks : (l : Lent) (reg : List ℕ) (day : ℕ) (ws : List ℕ) (A : Term) → (check-call l reg day ws ≡ ok A) ↔ Checkable l reg day ws A
   pub grants : (l : Lent) (reg : List ℕ) (k : Ask) → (request-call l reg k ≡ ok tt) ↔ Grantable l reg k
+  pub batches : (l : Lent) (reg : List ℕ) (day : ℕ) (ws : List ℕ) (xs : List (Option Ask)) → ItemsOf day ws xs →
+      (batch-call l reg day ws ≡ all-granted) ↔ Batchable l reg day xs
   pub says : (l : Lent) (reg : List ℕ) (day : ℕ) (st : Statement) (added : Bool) → (say-call l reg day st ≡ ok added) ↔ Sayable l reg day st added
   pub opens : (l : Lent) (reg rules : List ℕ) (rs : List Record) → (open-call l reg rules ≡ ok rs) ↔ Openable l reg rules rs
   -- an accepted signature is a signature in the sense of Scope
