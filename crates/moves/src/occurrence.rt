@@ -5,7 +5,7 @@ use logic::word::SIGN;
 use logic::word::VARIABLE;
 use logic::word::kind;
 use logic::word::payload_of;
-use words::part::skip;
+use parts::skip;
 ghost use mathlib.Core.Path.{_≡_};
 ghost use Prim.Native.Nat.{_+_};
 ghost use Rattle.logic.specs.Term.{Term, size};

@@ -18,7 +18,7 @@ use logic::word::VARIABLE;
 use logic::word::VARIABLE_0;
 use logic::word::kind;
 use logic::word::payload_of;
-use words::part::copy;
+use parts::copy;
 use words::term::term_test;
 use words::verdict::Verdict;
 ghost use Prim.Native.Nat.{_+_};

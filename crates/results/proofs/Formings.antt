@@ -25,7 +25,8 @@ use Rattle.rules.specs.Rule.{first-child, second-child, pair-type, app-type, bi
 use Rattle.rules.specs.Scope.{entry-head}
 use Rattle.rules.specs.Form.{front-words, TypeFormed}
 use Rattle.rules.specs.Enter.{keep-of}
-use Rattle.results.specs.Results.{Applies, Appliable, Pairs, Pairable, Binds, Bindable, Forms, Formable}
+use Rattle.bind_result.specs.BindResult.{Binds, Bindable}
+use Rattle.results.specs.Results.{Applies, Appliable, Pairs, Pairable, Forms, Formable}
 use Rattle.rules.specs.declared.derivation.Derivation.{Derivation}
 use Rattle.rules.specs.declared.derivation.Derivation.the-variants.{Typed, Refused}
 use Rattle.rules.proofs.Fronts.{measured-fits, formed-refused, formed-typed}

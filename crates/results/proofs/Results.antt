@@ -1,57 +1,40 @@
 -- What each step of a rule's result answers and writes.
 use Prim.Native.Nat.{ℕ, suc, _+_, _-_, _≤_, _<_}
-use native.Mathlib.Nat.{add-zero}
 use native.Mathlib.Omega.{arith}
 use mathlib.Core.Path.{_≡_, refl, sym, ap, ap₂, subst, _∙_}
 use mathlib.Core.Logic.{inl, inr}
-use mathlib.Core.Bool.{Bool, true, false, not, cond}
-use mathlib.Core.List.{List, _∷_, _++_, append-assoc, tail-eq-of-cons-eq}
-use mathlib.Core.Option.{Option, some, none}
-use lib.Dec.{ltb, eqb}
-use lib.IntN.{pos, negsuc}
-use lib.Seq.{drop-drop, take-at, getD-drop}
-use lib.ListN.{length, take, drop, set, getD, take-append-drop, length-append, length-drop, length-set}
-use borrow.Author.Tests.{not-true, not-false, eq-eqb}
+use mathlib.Core.Bool.{Bool, true, false, not}
+use mathlib.Core.List.{List, _∷_}
+use lib.ListN.{length, take, drop, set, getD, length-set}
+use borrow.Author.Tests.{not-true, not-false}
 use Rattle.logic.specs.Limits.{payloads, most-type-words}
-use Rattle.logic.specs.Refusals.{condition-fails, type-too-long, argument-mismatch, variable-escapes}
-use Rattle.logic.specs.Result.{Result, refused, _>>_, require}
+use Rattle.logic.specs.Refusals.{condition-fails, type-too-long, argument-mismatch}
+use Rattle.logic.specs.Result.{Result}
 use Rattle.logic.specs.Tags.{tag-name, tag-sign}
-use Rattle.logic.specs.Term.{Op, saysO, piO, lamO, appO, retO, bindO, Term, atom, var, sign, node, binds, under, P, KindP, KindT, Name, Says, word}
-use Rattle.logic.specs.Term.{payload-of, op-word, encode, size, first-word}
-use Rattle.logic.specs.Move.{shift, raise, lower, fill-at, fill, occurs}
-use Rattle.logic.specs.Reading.{branch, word-shape, Plain, PlainType, InRange}
+use Rattle.logic.specs.Term.{Op, saysO, Term, node, P, KindP, KindT, Name, Says, word}
+use Rattle.logic.specs.Term.{payload-of, op-word, encode, size}
+use Rattle.logic.specs.Move.{fill-at, fill}
+use Rattle.logic.specs.Reading.{Plain, PlainType}
 use Rattle.logic.specs.Infer.{same-term, same, conclusion, proposition, measured}
 use Rattle.logic.proofs.Basics.{clash}
 use Rattle.logic.proofs.Results.{pass}
 use Rattle.logic.proofs.Stopped.{fail}
-use Rattle.logic.proofs.Free.{lower-raise}
 use Rattle.logic.proofs.Proposition.{same-yes, same-no}
-use Rattle.logic.proofs.Words.{head, shape-first, plain-in-range, encode-size, prefix-free, size-pos, node-plain}
+use Rattle.logic.proofs.Words.{head, plain-in-range, encode-size, size-pos}
 use Rattle.words.specs.Place.{At, Is, written-at}
-use Rattle.words.specs.Typed.{TypeAt}
-use Rattle.moves.specs.Shift.{Shifted}
 use Rattle.moves.specs.Fill.{FilledTo}
-use Rattle.moves.specs.Occurrence.{absent}
 use Rattle.moves.specs.declared.fill.Filled.{Filled}
 use Rattle.moves.specs.declared.fill.Filled.the-variants.{Done, Over}
 use Rattle.words.proofs.Lists.{written-cons, written-node, written-front}
-use Rattle.words.proofs.Places.{words-head, at-head, at-part, part-is, at-sign, at-left, at-right}
+use Rattle.words.proofs.Places.{at-head, at-part, part-is, at-sign, at-left, at-right}
 use Rattle.words.proofs.Types.{in-range}
-use Rattle.moves.proofs.Shifts.{size-shift, length-shift}
 use Rattle.moves.proofs.Fills.{done-is, over-is}
-use Rattle.moves.proofs.Occurrences.{absent-is, present-is}
-use Rattle.rules.specs.Rule.{sign-type, pair-type, app-type, bind-type}
-use Rattle.rules.specs.Scope.{entry-head}
+use Rattle.rules.specs.Rule.{sign-type, pair-type, app-type}
 use Rattle.rules.specs.Form.{front-words, TypeFormed}
-use Rattle.results.specs.Results.{Applies, Pairs, Binds, Signs}
+use Rattle.bind_result.proofs.Results.{begins}
+use Rattle.results.specs.Results.{Applies, Pairs, Signs}
 use Rattle.rules.specs.declared.derivation.Derivation.the-variants.{Typed, Refused}
 use Rattle.rules.proofs.Fronts.{denied, type-part, written-kept, written-there, measured-fits, measured-long, formed-refused, writes}
-
--- ---- words and terms
-
--- two terms begin in the same place: they are the same where the first's words are those that stand there
-pub begins : (xs rest : List ℕ) (k : ℕ) (s t : Term) → InRange s → InRange t → take k xs ≡ encode s → xs ≡ encode t ++ rest → s ≡ t
-begins xs rest k s t p q e f = prefix-free s t (drop k xs) rest p q (ap (λ (l : List ℕ). l ++ drop k xs) (sym e) ∙ take-append-drop k xs ∙ f) .0
 
 -- ---- an App
 
@@ -208,160 +191,3 @@ module _ (proof ws : List ℕ) (at next m end : ℕ) (o : Op) (a B : Term) (j : 
         (inl (j .here .plain, proposition-plain B (j .type .plain) (sym f ∙ not-false r t)))
         (written-kept ws aside (encode B) most-type-words front-words (omega arith) ea′ (omega arith))
         (written-node aside mid new 0 (op-word o) (size a) (encode a) (encode B) (omega arith) (sym la) em′ (en ∙ ap₂ (written-at mid) i back))
-
--- ---- a Bind
-
--- the numbers of variables only fall
-plain-lower : (c : ℕ) (t : Term) → Plain t → Plain (shift c (negsuc 0) t)
-unfolding Plain shift
-plain-lower c (atom a) p = p
-plain-lower c (var n) p = go (ltb n c)
-  where
-    go : (b : Bool) → cond b n (n - 1) < payloads
-    go true = p
-    go false = omega arith
-plain-lower c (sign n q) p = p
-plain-lower c (node o a b) p = (plain-lower c a (p .0), plain-lower (under (binds o) suc c) b (p .1))
-
--- a type that is a node is no sort
--- B is a type that the raised principal p says
-pub record SaidBy (p B : Term) : Type 0 where
-  pub right : Term
-  pub is : B ≡ Says (raise 1 p) right
-
-record Saying (B : Term) : Type 0 where
-  left : Term
-  right : Term
-  is : B ≡ Says left right
-
-says-shape : (B : Term) → head B ≡ branch saysO → Saying B
-says-shape (atom a) e = absurd (clash (cc))
-says-shape (var n) e = absurd (clash (cc))
-says-shape (sign n q) e = absurd (clash (cc))
-says-shape (node o a b) e = let q : o ≡ saysO = cc in record { left = a; right = b; is = ap (λ (o : Op). node o a b) q }
-
-says-first : (B : Term) → PlainType B → first-word B ≡ op-word saysO → Saying B
-says-first B (inl p) e = says-shape B (sym (shape-first B p) ∙ ap word-shape e)
-says-first B (inr (inl q)) e = let w : first-word KindP ≡ op-word saysO = ap first-word (sym q) ∙ e in absurd (omega arith)
-says-first B (inr (inr q)) e = let w : first-word KindT ≡ op-word saysO = ap first-word (sym q) ∙ e in absurd (omega arith)
-
--- a type that begins with the word Says and the principal's words
-said-by : (ws : List ℕ) (k : ℕ) (p B : Term) → TypeAt ws 0 B → Plain (raise 1 p) → take k ws ≡ op-word saysO ∷ encode (raise 1 p) → SaidBy p B
-unfolding encode InRange
-said-by ws k p B h r e =
-    let w : ws ≡ op-word saysO ∷ (encode (raise 1 p) ++ drop k ws) = sym (take-append-drop k ws) ∙ ap (λ (l : List ℕ). l ++ drop k ws) e in
-    let s = says-first B (h .plain) (sym (words-head ws 0 B (h .rest) (h .words)) ∙ ap (λ (l : List ℕ). getD l 0 0) w) in
-    let i : InRange (Says (s .left) (s .right)) = subst InRange (s .is) (in-range B (h .plain)) in
-    let b : encode (Says (s .left) (s .right)) ++ h .rest ≡ op-word saysO ∷ (encode (raise 1 p) ++ drop k ws) = ap (λ (t : Term). encode t ++ h .rest)
-    (sym (s .is)) ∙ sym (h .words) ∙ w in
-    let l : s .left ≡ raise 1 p = prefix-free (s .left) (raise 1 p) (encode (s .right) ++ h .rest) (drop k ws) (i .0) (plain-in-range (raise 1 p) r)
-    (sym (append-assoc (encode (s .left)) (encode (s .right)) (h .rest)) ∙ tail-eq-of-cons-eq b) .0 in
-    record { right = s .right; is = s .is ∙ ap (λ (t : Term). Says t (s .right)) l }
-
-said-words : (ws : List ℕ) (k : ℕ) (p B : Term) → TypeAt ws 0 B → k ≡ 1 + size p → SaidBy p B → take k ws ≡ op-word saysO ∷ encode (raise 1 p)
-unfolding encode
-said-words ws k p B h e s =
-    let z : length (encode (raise 1 p)) ≡ size p = length-shift 0 (pos 1) p in
-    let n : length (op-word saysO ∷ encode (raise 1 p)) ≡ k = omega arith in
-    ap (take k) (h .words ∙ ap (λ (t : Term). encode t ++ h .rest) (s .is)
-    ∙ ap (λ (l : List ℕ). op-word saysO ∷ l) (append-assoc (encode (raise 1 p)) (encode (s .right)) (h .rest)))
-    ∙ take-at (op-word saysO ∷ encode (raise 1 p)) (encode (s .right) ++ h .rest) k n
-
-bound-unsaid : (at : ℕ) (p B : Term) → (SaidBy p B → ⊥) → bind-type at p B ≡ refused condition-fails at
-bound-unsaid at p (atom a) n = refl
-bound-unsaid at p (var k) n = refl
-bound-unsaid at p (sign k q) n = refl
-bound-unsaid at p (node saysO x y) n = fail _ at _ (same-no (λ q. n (record { right = y; is = ap (λ (t : Term). Says t y) q })))
-bound-unsaid at p (node piO x y) n = refl
-bound-unsaid at p (node lamO x y) n = refl
-bound-unsaid at p (node appO x y) n = refl
-bound-unsaid at p (node retO x y) n = refl
-bound-unsaid at p (node bindO x y) n = refl
-
-bound-said : (at : ℕ) (p B : Term) (s : SaidBy p B) (o : Result Term)
-    → (require (eqb (occurs 0 (s .right)) 0) variable-escapes at >> measured at (Says p (lower (s .right)))) ≡ o → bind-type at p B ≡ o
-bound-said at p B s o e = ap (bind-type at p) (s .is) ∙ pass condition-fails at (same-yes refl) e
-
-module _ (ws : List ℕ) (used at m end : ℕ) (p q B : Term) (j : Binds ws used m p q B) where
-  -- the words before the principal's in the entry
-  pub total-is : getD ws (length ws - used) 0 ≡ entry-head + (1 + size p + size q)
-  total-is =
-      ap (λ (k : ℕ). getD ws k 0) (sym (add-zero (length ws - used))) ∙ sym (getD-drop (length ws - used) ws 0 0) ∙ ap (λ (l : List ℕ). getD l 0 0) (j .kept)
-
-  pub kept-size : getD ws (length ws - used + 2) 0 ≡ size q
-  kept-size = sym (getD-drop (length ws - used) ws 2 0) ∙ ap (λ (l : List ℕ). getD l 2 0) (j .kept)
-
-  pub said-is : getD ws (length ws - used) 0 - entry-head - getD ws (length ws - used + 2) 0 ≡ 1 + size p
-  said-is = let t = total-is in let k = kept-size in omega arith
-
-  pub kept-inside : length ws - used + entry-head + (1 + size p) ≤ length ws
-  kept-inside =
-      let a : length (drop (length ws - used) ws) ≡ length ws - (length ws - used) = length-drop (length ws - used) ws in
-      let z : length (encode (raise 1 p)) ≡ size p = length-shift 0 (pos 1) p in
-      let b = ap length (j .kept) in
-      let d : length ((encode (raise 1 p) ++ encode q) ++ j .rest) ≡ length (encode (raise 1 p)) + length (encode q) + length (j .rest) = simp length-append in
-      omega arith
-
-  unsaid : (SaidBy p B → ⊥) → TypeFormed (bind-type at p B) end ws ws (Refused condition-fails at)
-  unsaid n = formed-refused _ condition-fails at end ws (bound-unsaid at p B n)
-
-  module _ (said : ℕ) (e : said ≡ 1 + size p) where
-    pub said-size : (s : SaidBy p B) → m ≡ said + size (s .right)
-    unfolding size
-    said-size s =
-        let z : size (raise 1 p) ≡ size p = size-shift 0 (pos 1) p in
-        let b : size B ≡ suc (size (raise 1 p) + size (s .right)) = ap size (s .is) in
-        let k = j .type-words in
-        omega arith
-
-    pub bind-short : m ≤ said → TypeFormed (bind-type at p B) end ws ws (Refused condition-fails at)
-    bind-short l = unsaid λ s. let z = said-size s in let k = size-pos (s .right) in omega arith
-
-    kept-part : take (length ws - used + entry-head + said - (length ws - used + entry-head)) (drop (length ws - used + entry-head) ws) ≡ op-word saysO ∷ encode
-        (raise 1 p)
-    kept-part =
-        let h : ℕ = length ws - used in
-        let i : length ws - used + entry-head + said - (length ws - used + entry-head) ≡ said = omega arith in
-        let z : length (encode (raise 1 p)) ≡ size p = length-shift 0 (pos 1) p in
-        let n : length (op-word saysO ∷ encode (raise 1 p)) ≡ said = omega arith in
-        ap₂ take i (sym (drop-drop entry-head h ws) ∙ ap (drop entry-head) (j .kept)
-        ∙ ap (λ (l : List ℕ). op-word saysO ∷ l) (append-assoc (encode (raise 1 p)) (encode q) (j .rest)))
-        ∙ take-at (op-word saysO ∷ encode (raise 1 p)) (encode q ++ j .rest) said n
-
-    pub bind-differs : (r : Bool) → not r ≡ true → (take said ws ≡ take (length ws - used + entry-head + said - (length ws - used + entry-head))
-        (drop (length ws - used + entry-head) ws) → r ≡ true) → TypeFormed (bind-type at p B) end ws ws (Refused condition-fails at)
-    bind-differs r t f = unsaid λ s. denied r t (f (said-words ws said p B (j .type) e s ∙ sym kept-part))
-
-    module _ (agree : take said ws ≡ take (length ws - used + entry-head + said - (length ws - used + entry-head)) (drop (length ws - used + entry-head) ws))
-      where
-        pub saying : SaidBy p B
-        saying = said-by ws said p B (j .type) (j .principal) (agree ∙ kept-part)
-
-        pub said-at : At ws 0 B
-        said-at = record { plain = node-plain (saying .is) (j .type .plain); rest = j .type .rest; words = j .type .words }
-
-        pub right-at : At ws said (saying .right)
-        right-at =
-            let z : size (raise 1 p) ≡ size p = size-shift 0 (pos 1) p in
-            let i : 0 + 1 + size (raise 1 p) ≡ said = omega arith in
-            subst (λ (k : ℕ). At ws k (saying .right)) i (at-right (subst (At ws 0) (saying .is) said-at))
-
-        module _ (r : Option ℕ) (f : r ≡ absent (said + size (saying .right)) (occurs 0 (saying .right))) where
-          pub bind-present : r ≡ none → TypeFormed (bind-type at p B) end ws ws (Refused variable-escapes at)
-          bind-present t =
-              formed-refused _ variable-escapes at end ws (bound-said at p B saying _ (fail _ at _ (present-is (occurs 0 (saying .right)) _ (sym t ∙ f))))
-
-          pub bind-absent : (k : ℕ) (new : List ℕ) (words : ℕ) → r ≡ some k → m ≤ most-type-words → Shifted B 0 (negsuc 0) ws 0 new words
-              → TypeFormed (bind-type at p B) end ws new (Typed words end)
-          unfolding shift
-          bind-absent k new words t l h =
-              let low : shift 0 (negsuc 0) B ≡ Says p (lower (saying .right)) = ap lower (saying .is)
-              ∙ ap (λ (u : Term). Says u (lower (saying .right))) (lower-raise 0 p) in
-              let z : size (Says p (lower (saying .right))) ≡ size B = sym (ap size low) ∙ size-shift 0 (negsuc 0) B in
-              let n = j .type-words in
-              let small : size (Says p (lower (saying .right))) ≤ most-type-words = omega arith in
-              writes _ (Says p (lower (saying .right))) words end ws ws new
-              (bound-said at p B saying _ (pass variable-escapes at
-              (eq-eqb (occurs 0 (saying .right)) 0 (absent-is (occurs 0 (saying .right)) _ k (sym t ∙ f) .never)) (measured-fits at _ small)))
-              (h .count ∙ sym z) small (inl (subst Plain low (plain-lower 0 B (said-at .plain)))) refl
-              (h .words ∙ ap (λ (u : Term). written-at ws 0 (encode u)) low)

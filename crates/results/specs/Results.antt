@@ -1,16 +1,16 @@
 -- What the code of the results is asked.
 use Prim.Native.Nat.{ℕ, _+_, _≤_}
 use mathlib.Core.Path.{_≡_}
-use mathlib.Core.List.{List, _∷_, _++_}
+use mathlib.Core.List.{List, _++_}
 use lib.ListN.{length}
 use Rattle.logic.specs.Limits.{most-words, most-type-words}
-use Rattle.logic.specs.Term.{Op, saysO, piO, lamO, appO, retO, bindO, Term, sign, node, Says, Pi, op-word, encode, size}
+use Rattle.logic.specs.Term.{Op, saysO, piO, lamO, appO, retO, bindO, Term, sign, node, Says, Pi, size}
 use Rattle.logic.specs.Move.{raise, fill}
 use Rattle.logic.specs.Reading.{Plain, PlainType}
 use Rattle.words.specs.Place.{At}
 use Rattle.words.specs.Typed.{TypeAt}
 use Rattle.rules.specs.Rule.{first-child, second-child}
-use Rattle.rules.specs.Scope.{tail, entry-head, binder-entry}
+use Rattle.rules.specs.Scope.{tail, binder-entry}
 use Rattle.rules.specs.Form.{front-words}
 use Rattle.rules.specs.Enter.{keep-of}
 
@@ -49,24 +49,6 @@ pub record Pairable (proof ws : List ℕ) (at next m : ℕ) : Type 0 where
   pub small : m ≤ most-type-words
   pub short : length proof ≤ most-words
   pub room : front-words ≤ length ws
-
--- a Bind's body has the type B, at the front of the workspace; the type Says p q of
--- its proof is kept at the end, with p raised
-pub record Binds (ws : List ℕ) (used m : ℕ) (p q B : Term) : Type 0 where
-  pub rest : List ℕ
-  pub kept : tail used ws ≡ (entry-head + (1 + size p + size q)) ∷ 0 ∷ size q ∷ ((op-word saysO ∷ (encode (raise 1 p) ++ encode q)) ++ rest)
-  pub principal : Plain (raise 1 p)
-  pub type : TypeAt ws 0 B
-  pub type-words : m ≡ size B
-
-pub record Bindable (ws : List ℕ) (used m : ℕ) : Type 0 where
-  pub p : Term
-  pub q : Term
-  pub B : Term
-  pub binds : Binds ws used m p q B
-  pub small : m ≤ most-type-words
-  pub small-kept : 1 + size p + size q ≤ most-type-words
-  pub room : used + front-words ≤ length ws
 
 -- a Sign stands in the proof, and its proposition's type s at the front of the workspace
 pub record Signs (proof ws : List ℕ) (at n end a : ℕ) (q s : Term) : Type 0 where

@@ -1,7 +1,7 @@
 // The result of a node, from its children and their types.
 use crate::apply::apply;
-use crate::bind::bind;
 use crate::pair::pair;
+use bind_result::bind;
 use logic::refusal::CONDITION_FAILS;
 use logic::word::APP;
 use logic::word::BIND;

@@ -2,10 +2,10 @@
 use logic::limit::MOST_TYPE_WORDS;
 use logic::refusal::CONDITION_FAILS;
 use logic::refusal::TYPE_TOO_LONG;
+use parts::copy;
+use parts::copy_within;
+use parts::proposition::proposition;
 use rules::derivation::Derivation;
-use words::part::copy;
-use words::part::copy_within;
-use words::proposition::proposition;
 ghost use mathlib.Core.Path.{_≡_};
 ghost use Rattle.logic.specs.Term.{Op, Term, op-word};
 ghost use Rattle.rules.specs.Rule.{pair-type};

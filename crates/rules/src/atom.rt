@@ -15,7 +15,7 @@ use logic::word::TAG_TYPE;
 use logic::word::TYPE;
 use logic::word::payload_of;
 use logic::word::tag_of;
-use words::part::copy;
+use parts::copy;
 ghost use mathlib.Core.Path.{_≡_};
 ghost use mathlib.Core.List.{List};
 ghost use mathlib.Core.Option.{some};

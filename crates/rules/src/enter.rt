@@ -15,7 +15,7 @@ use logic::word::TYPE;
 use logic::word::kind;
 use logic::word::tag_of;
 use moves::shift::shift_within;
-use words::part::copy_within;
+use parts::copy_within;
 ghost use mathlib.Core.Path.{_≡_};
 ghost use mathlib.Core.List.{[], _∷_};
 ghost use Prim.Native.Nat.{ℕ, _+_, _-_, _≤_};

@@ -1,3 +1,2 @@
 -- Laws of the search, one for each step of the code.
-pub mod Sought
-pub mod Scans
+pub mod Search

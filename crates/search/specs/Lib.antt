@@ -1,4 +1,2 @@
--- Where statements are looked for, what is known of one, and what the code answers.
+-- Where statements are looked for.
 pub mod Sources
-pub mod Sought
-pub mod Answers

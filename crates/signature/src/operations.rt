@@ -3,7 +3,7 @@ use logic::limit::MOST_OPERATIONS;
 use logic::word::PI;
 use logic::word::PROP;
 use logic::word::STRING;
-use words::part::same;
+use parts::same;
 ghost use mathlib.Core.Path.{_≡_};
 ghost use mathlib.Core.List.{List};
 ghost use lib.ListN.{getElem?};

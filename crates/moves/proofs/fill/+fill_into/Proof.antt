@@ -15,8 +15,8 @@ use Rattle.logic.proofs.Shapes.{term-kind}
 use Rattle.logic.proofs.word.kind.Reads as kind-reads
 use Rattle.words.specs.Place.{At}
 use Rattle.words.proofs.Places.{at-kind, at-end, Halves, halves, at-within}
-use Rattle.words.proofs.part.copy.Reads as copy-reads
-use Rattle.words.proofs.part.skip.Reads as skip-reads
+use Rattle.parts.proofs.copy.Reads as copy-reads
+use Rattle.parts.proofs.skip.Reads as skip-reads
 use Rattle.moves.specs.Fill.{Fillable}
 use Rattle.moves.specs.declared.fill.Filled.{Filled}
 use Rattle.moves.proofs.Cases.{atom-case, variable-case, sign-case, node-case}

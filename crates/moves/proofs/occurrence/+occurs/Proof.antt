@@ -14,7 +14,7 @@ use Rattle.logic.proofs.word.kind.Reads as kind-reads
 use Rattle.logic.proofs.word.payload_of.Reads as payload-of-reads
 use Rattle.words.specs.Place.{At}
 use Rattle.words.proofs.Places.{at-kind, Halves, halves, at-within}
-use Rattle.words.proofs.part.skip.Reads as skip-reads
+use Rattle.parts.proofs.skip.Reads as skip-reads
 use Rattle.moves.specs.Occurrence.{occurrence-answer}
 use Rattle.moves.proofs.Cases.{atom-case, variable-case, sign-case, node-case}
 use Rattle.moves.proofs.Occurrences.{occurs-atom, occurs-here, occurs-other, occurs-sign, occurs-first, occurs-second, absent-is}

@@ -20,7 +20,7 @@ use Rattle.logic.proofs.word.payload_of.Reads as payload-of-reads
 use Rattle.logic.proofs.Words.{size-pos}
 use Rattle.words.specs.Place.{At}
 use Rattle.words.proofs.Places.{at-kind, at-end, Halves, halves, at-within}
-use Rattle.words.proofs.part.skip.Reads as skip-reads
+use Rattle.parts.proofs.skip.Reads as skip-reads
 use Rattle.moves.specs.Shift.{Shifted}
 use Rattle.moves.proofs.Cases.{variable-case, node-case}
 use Rattle.moves.proofs.Shifts.{var-shifted, kept-shifted, second-stands, node-shifted}

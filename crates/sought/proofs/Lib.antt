@@ -1,0 +1,2 @@
+-- Laws of one item against a statement sought.
+pub mod ItemTells
