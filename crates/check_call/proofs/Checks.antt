@@ -12,9 +12,9 @@ use Rattle.rules.specs.declared.derivation.Derivation.{Derivation}
 use Rattle.rules.specs.declared.derivation.Derivation.the-variants.{Typed, Refused}
 use Rattle.typing.specs.Check.{typed-term, Judged}
 use Rattle.typing.proofs.Checks.{judged-refused}
-use Rattle.search.specs.Answers.{miss-answer}
-use Rattle.search.specs.declared.statement.Missed.{Missed}
-use Rattle.search.specs.declared.statement.Missed.the-variants.{Nowhere, At}
+use Rattle.signs.specs.Answers.{miss-answer}
+use Rattle.signs.specs.declared.Missed.{Missed}
+use Rattle.signs.specs.declared.Missed.the-variants.{Nowhere, At}
 use Rattle.register.specs.Calls.{Lent, Holding, view, outline-of, signs-held, check-own, check-call}
 use Rattle.check_call.specs.Answers.{HandedAs}
 use Rattle.shared_tests.specs.Shared.{PreparedAs}

@@ -113,4 +113,6 @@ desk-demand3 s w given rule-words rules calls e =
       recorded = ap register-content (extracts-as-requests s reg calls) ∙ d .content;
       reordered = λ day calls′ one π n n′.
           d .reordered day (as-requests calls′) one (requests-perm π) (none-refused s reg calls n) (none-refused s reg calls′ n′);
+      reordered-singles = λ day calls′ one π n n′.
+          d .reordered-singles day (as-requests calls′) one π (none-refused s reg calls n) (none-refused s reg calls′ n′);
     }

@@ -8,11 +8,11 @@ use Rattle.logic.specs.Refusals.{out-of-form}
 use Rattle.logic.specs.Result.{ok, refused, without-value}
 use Rattle.register.specs.Records.{Record, Ask, Content, register-content, written}
 use Rattle.register.specs.Calls.{after-request, open-call, new-content}
-use Rattle.register.specs.History.{Setting, lent, Call, Reply, request, requested, reply, after, Refused, run, read-off, OneDay, Demand, Reordered}
+use Rattle.register.specs.History.{Setting, lent, Call, Reply, request, requested, reply, after, Refused, run, read-off, OneDay, singles, Demand, Reordered}
 use Rattle.homes.specs.Homes.{formed}
 use Rattle.extract.specs.Extract.{extract-call}
 
--- a say or a request, or an extract with its list, its table and the words of its output
+-- a say, a request or a batch, or an extract with its list, its table and the words of its output
 pub data DeskCall : Type 0 where
   plain : Call → DeskCall
   extract : (workspace : ℕ) → Ask → (homes surveys : List ℕ) (room : ℕ) → DeskCall
@@ -73,6 +73,10 @@ pub record DeskDemand (s : Setting) (reg : List ℕ) (c : Content) (calls : List
   pub recorded : register-content (desk-run s reg calls) ≡ ok (read-off s (length reg) c (as-requests calls))
   -- if neither of two orders of calls of one day has a refusal, they leave alike registers
   pub reordered : (day : ℕ) (calls′ : List DeskCall) → OneDay day (as-requests calls) → List·Permᴰ calls calls′ → NoDeskRefusal s reg calls →
+      NoDeskRefusal s reg calls′ → Reordered s reg c (as-requests calls) (as-requests calls′)
+  -- also with batches: the request of an extract may stand elsewhere in a batch, and a request of a batch as an extract
+  pub reordered-singles : (day : ℕ) (calls′ : List DeskCall) → OneDay day (singles s reg (as-requests calls)) →
+      List·Permᴰ (singles s reg (as-requests calls)) (singles s reg (as-requests calls′)) → NoDeskRefusal s reg calls →
       NoDeskRefusal s reg calls′ → Reordered s reg c (as-requests calls) (as-requests calls′)
 
 -- for every opening that succeeded and every list of calls after it

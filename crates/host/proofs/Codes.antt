@@ -20,12 +20,17 @@ use Rattle.typing.specs.Check.{Judged}
 use Rattle.words.proofs.Verdicts.{passed-told}
 use Rattle.register.specs.Records.{Statement, Ask}
 use Rattle.register.specs.Calls.{Lent, open-call, say-call, request-call, check-call}
-use Rattle.register.proofs.Bounds.{Number, open-bound, say-bound, request-bound, check-bound}
+use Rattle.register.specs.Batch.{most-items, all-granted, refused-at, batch-call}
+use Rattle.register.proofs.Bounds.{Number, open-bound, say-bound, request-bound, check-bound, batch-bound}
 use Rattle.shared_tests.proofs.OwnTests.{words-within}
 use Rattle.check_call.proofs.Checks.{handed-type, handed-nothing}
 use Rattle.say.specs.Said.{said-answer, SaysAs}
 use Rattle.say.specs.declared.Said.{Said}
 use Rattle.say.specs.declared.Said.the-variants.{Added, Held, Refused as SaidRefused}
+use Rattle.batch.specs.Answers.{BatchedAs}
+use Rattle.batch_tests.specs.Answers.{batched-answer}
+use Rattle.batch_tests.specs.declared.Batched.{Batched as BatchedCode}
+use Rattle.batch_tests.specs.declared.Batched.the-variants.{Granted, Refused as BatchedRefused}
 use Rattle.editions.specs.Convert.{converted}
 use Rattle.named.specs.Answers.{conversion-answer, ConvertedAs}
 use Rattle.editions.specs.declared.Edition.{Edition}
@@ -34,7 +39,8 @@ use Rattle.named.specs.declared.convert.Conversion.the-variants.{Written, Refus
 use Rattle.editions.proofs.Refuses.{converted-bound}
 use Rattle.extract.specs.Extract.{extract-call}
 use Rattle.extract.proofs.Demands.{extract-bound}
-use Rattle.host.specs.Answers.{number-unit, place-limit, code-of, added-of, SaidTo, written-of, ConvertedTo, TypedTo}
+use Rattle.host.specs.Answers.{number-unit, place-limit, code-of, added-of, SaidTo, batch-code-of, index-of, BatchedTo}
+use Rattle.host.specs.Answers.{written-of, ConvertedTo, TypedTo}
 
 -- a number and a place that make up an answer
 abbrev pub Fits : ℕ → ℕ → Type 0
@@ -74,6 +80,25 @@ open-fits l reg rules m p h e = let (n, q) = open-bound l reg rules e in omega a
 pub request-fits : (l : Lent) (reg : List ℕ) (k : Ask) (m p : ℕ) → length (l .sig) + length (k .proof) < place-limit →
     request-call l reg k ≡ refused m p → Fits m p
 request-fits l reg k m p h e = let (n, q) = request-bound l reg k e in omega arith
+
+-- ---- batch
+
+module _ (l : Lent) (old : List ℕ) (day : ℕ) (items new : List ℕ) (r : BatchedCode) (B : BatchedAs l old day items new r) where
+  pub batched-all : r ≡ Granted → BatchedTo l old day items new 0 0
+  batched-all f =
+      let e : all-granted ≡ batch-call l old day items = sym (ap batched-answer f) ∙ B .answer in
+      record { answer = ap batch-code-of e; register = B .register; index-is = ap index-of e }
+
+  module _ (i m p : ℕ) (f : r ≡ BatchedRefused i m p) where
+    unbatched-is : batch-call l old day items ≡ refused-at i m p
+    unbatched-is = sym (B .answer) ∙ ap batched-answer f
+
+    pub batch-fits : length (l .sig) + length items < place-limit → (i < most-items) × Fits m p
+    batch-fits h = let (a, n, b) = batch-bound l old day items unbatched-is in (a, omega arith)
+
+    pub batched-none : (code : ℕ) → code ≡ m * number-unit + p → BatchedTo l old day items new i code
+    batched-none code c =
+        record { answer = c ∙ sym (ap batch-code-of unbatched-is); register = B .register; index-is = sym (ap index-of unbatched-is) }
 
 -- ---- extract
 

@@ -8,6 +8,7 @@ use Rattle.logic.specs.Result.{Result, ok, refused, _>>=_, _>>_, without-value}
 use Rattle.logic.specs.Term.{Term}
 use Rattle.register.specs.Records.{Statement, Ask, record-head, used-by, register-content}
 use Rattle.register.specs.Calls.{Lent, open-call, after-open, say-call, after-say, request-call, after-request, read-call}
+use Rattle.register.specs.Batch.{Batched, all-granted, refused-at, batch-call, batch-leaves}
 use Rattle.read_call.specs.Read.{body-of, kind-of}
 use Rattle.check_call.specs.Answers.{type-of}
 use Rattle.words.specs.Place.{after-write}
@@ -45,6 +46,20 @@ pub record SaidTo (l : Lent) (old : List ℕ) (day : ℕ) (st : Statement) (new 
 pub record RequestedTo (l : Lent) (old : List ℕ) (k : Ask) (new : List ℕ) (code : ℕ) : Type 0 where
   pub answer : code ≡ code-of (request-call l old k)
   pub register : new ≡ after-request (request-call l old k) old k
+
+-- a batch: also the index of the item refused, 0 where all are granted
+abbrev pub batch-code-of : Batched → ℕ
+batch-code-of all-granted = 0
+batch-code-of (refused-at i m p) = m * number-unit + p
+
+abbrev pub index-of : Batched → ℕ
+index-of all-granted = 0
+index-of (refused-at i m p) = i
+
+pub record BatchedTo (l : Lent) (old : List ℕ) (day : ℕ) (items new : List ℕ) (index code : ℕ) : Type 0 where
+  pub answer : code ≡ batch-code-of (batch-call l old day items)
+  pub register : new ≡ batch-leaves l old day items
+  pub index-is : index ≡ index-of (batch-call l old day items)
 
 -- an extract: also the output
 pub record ExtractedTo (l : Lent) (reg : List ℕ) (k : Ask) (homes surveys new old out : List ℕ) (code : ℕ) : Type 0 where

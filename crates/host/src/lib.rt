@@ -1,6 +1,8 @@
 // "A host program in C calls check and request": extern "C" entry points on numbers and lent slices, thin over the
-// proved check and request, and over open, say, read and extract alike. include/aura0.h declares them. An answer is
-// the refusal's number times 4294967296 plus the place, 0 for success.
+// proved check and request, and over open, say, batch, read and extract alike. include/aura0.h declares them. An answer
+// is the refusal's number times 4294967296 plus the place, 0 for success.
+use batch::batch;
+use batch_tests::Batched;
 use check_call::check;
 use check_call::judge;
 use named::convert::Conversion;
@@ -24,7 +26,7 @@ ghost use Rattle.register.specs.Calls.{check-call};
 ghost use Rattle.shared_tests.specs.Shared.{lent-of};
 ghost use Rattle.editions.specs.Convert.{from-named, to-named};
 ghost use Rattle.host.specs.Answers.{number-unit, place-limit, code-of};
-ghost use Rattle.host.specs.Answers.{OpenedTo, SaidTo, RequestedTo, ExtractedTo, ConvertedTo, TypedTo, ReadTo};
+ghost use Rattle.host.specs.Answers.{OpenedTo, SaidTo, RequestedTo, BatchedTo, ExtractedTo, ConvertedTo, TypedTo, ReadTo};
 
 // What a refusal's number is multiplied by.
 const NUMBER_UNIT: u64 = 4294967296;
@@ -129,6 +131,37 @@ pub extern "C" fn aura0_request(
     match verdict {
         Verdict::Passed => 0,
         Verdict::Refused { number, place } => code(number, place),
+    }
+}
+
+// Batch: `index` is that of the item refused, 0 where all are granted.
+#[no_mangle]
+pub extern "C" fn aura0_batch(
+    signature: &[u32],
+    n: u32,
+    register: &mut [u32],
+    day: u32,
+    items: &[u32],
+    workspace: &mut [u32],
+    index: &mut u32,
+) -> u64
+    ensures { λ r. ⌜ BatchedTo (lent-of (now (signature .entry)) n (now (workspace .entry))) (now (register .entry)) day
+        (now (items .entry)) (now (register .exit)) (now (index .exit)) r ⌝ }
+{
+    let batched = batch(signature, n, register, day, items, workspace);
+    match batched {
+        Batched::Granted => {
+            *index = 0;
+            0
+        }
+        Batched::Refused {
+            index: first,
+            number,
+            place,
+        } => {
+            *index = first as u32;
+            code(number, place)
+        }
     }
 }
 

@@ -21,10 +21,10 @@ use Rattle.words.specs.declared.verdict.Verdict.the-variants.{Passed, Refused a
 use Rattle.words.specs.Verdict.{verdict-answer}
 use Rattle.words.proofs.Verdicts.{refused-told, passed-told}
 use Rattle.records.specs.Answers.{Room}
-use Rattle.search.specs.Answers.{miss-answer}
-use Rattle.search.specs.declared.statement.Missed.{Missed}
-use Rattle.search.specs.declared.statement.Missed.the-variants.{Nowhere, At}
-use Rattle.records.proofs.Adds.{statement-length, room-for}
+use Rattle.signs.specs.Answers.{miss-answer}
+use Rattle.signs.specs.declared.Missed.{Missed}
+use Rattle.signs.specs.declared.Missed.the-variants.{Nowhere, At}
+use Rattle.write_records.proofs.Adds.{statement-length, room-for}
 use Rattle.records.proofs.Items.{records-there}
 use Rattle.register.specs.Records.{Record, Statement, Content, used, latest, register-content, statements, holding, states, words-of, appended}
 use Rattle.register.specs.Records.{statement-extra, say-kind}

@@ -1,9 +1,5 @@
 // A call of the register and its line: what the example is, the call, and what it gives.
-use crate::terms::FROM;
-use crate::terms::OPERATIONS;
-use crate::terms::TODAY;
-use crate::terms::UNTIL;
-use crate::terms::signature;
+use batch_tests::Batched;
 use logic::limit::LEAST_WORKSPACE;
 use named::convert::Conversion;
 use named::convert::from_named;
@@ -12,6 +8,11 @@ use records::format::COUNT;
 use records::format::HEADER;
 use records::format::LATEST;
 use records::format::USED;
+use sample::FROM;
+use sample::OPERATIONS;
+use sample::TODAY;
+use sample::UNTIL;
+use sample::signature;
 use say::Said;
 use words::verdict::Verdict;
 
@@ -144,6 +145,28 @@ pub(crate) fn request_line(
         delivery,
         proof,
     );
+}
+
+// The index after the answer, that of the first item that fails.
+fn print_batched(example: &[u8], number: u32, place: usize, index: usize) {
+    print_answer(example, b"batch", number, place);
+    io::write_all(1, b" index ");
+    io::print_decimal(1, index as u64);
+    io::write_all(1, b"\n");
+}
+
+pub(crate) fn batch_line(example: &[u8], register: &mut [u32], items: &[u32]) {
+    let sig = signature();
+    let mut ws = [0u32; LEAST_WORKSPACE];
+    let batched = batch::batch(&sig, OPERATIONS, register, TODAY, items, &mut ws);
+    match batched {
+        Batched::Granted => print_batched(example, 0, 0, 0),
+        Batched::Refused {
+            index,
+            number,
+            place,
+        } => print_batched(example, number, place, index),
+    }
 }
 
 // A check with a signature, n, a day and a workspace of its own.

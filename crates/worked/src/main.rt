@@ -1,8 +1,8 @@
 // Makes document 01's examples, and those of document 02's requests that have landed, through the calls of the
 // register, and prints a line for each.
 mod lines;
-mod terms;
 
+use crate::lines::batch_line;
 use crate::lines::check_line;
 use crate::lines::check_line_on;
 use crate::lines::check_line_with;
@@ -16,35 +16,37 @@ use crate::lines::request_line_on;
 use crate::lines::say_line;
 use crate::lines::say_line_on;
 use crate::lines::to_named_line;
-use crate::terms::A0;
-use crate::terms::A3;
-use crate::terms::C0;
-use crate::terms::C2;
-use crate::terms::C9;
-use crate::terms::OPERATIONS;
-use crate::terms::P;
-use crate::terms::RET;
-use crate::terms::S;
-use crate::terms::S7;
-use crate::terms::SIGN3;
-use crate::terms::SIGN4;
-use crate::terms::TODAY;
-use crate::terms::V0;
-use crate::terms::deep;
-use crate::terms::escaping;
-use crate::terms::proof;
-use crate::terms::receipt;
-use crate::terms::rules;
-use crate::terms::signature;
-use crate::terms::statement;
-use crate::terms::statement_254;
-use crate::terms::statement_255;
-use crate::terms::trust;
-use crate::terms::trusting;
 use logic::limit::LEAST_WORKSPACE;
 use logic::word::APP;
 use logic::word::LAM;
 use logic::word::PI;
+use sample::A0;
+use sample::A3;
+use sample::C0;
+use sample::C2;
+use sample::C9;
+use sample::OPERATIONS;
+use sample::P;
+use sample::RET;
+use sample::S;
+use sample::S7;
+use sample::SIGN3;
+use sample::SIGN4;
+use sample::TODAY;
+use sample::V0;
+use sample::deep;
+use sample::escaping;
+use sample::items_in_other_order;
+use sample::items_in_turn;
+use sample::proof;
+use sample::receipt;
+use sample::rules;
+use sample::signature;
+use sample::statement;
+use sample::statement_254;
+use sample::statement_255;
+use sample::trust;
+use sample::trusting;
 
 // "Rule r, a3 says App C2 s7": how each register here begins.
 fn begin(register: &mut [u32]) {
@@ -271,6 +273,29 @@ fn nearest() {
     from_named_line(b"24, Lam1 S Sign3 V1", &signed, &mut words);
 }
 
+// Document 02, slip 7: a batch of two requests, the second with a proof that uses the receipt of the first; before it
+// the same in the other order.
+fn batches(register: &mut [u32; 118]) {
+    heading(b"Batches of two, on a register of 118 words");
+    begin(register);
+    let other = items_in_other_order();
+    batch_line(b"the second first", register, &other);
+    counts_line(register);
+    let items = items_in_turn();
+    batch_line(b"two in turn", register, &items);
+    counts_line(register);
+    read_line(b"record 5", register, 5);
+}
+
+// "The batch grants all or changes no word": there is room for the first of the two alone.
+fn short_batch(register: &mut [u32; 117]) {
+    heading(b"A batch of two, on a register of 117 words");
+    begin(register);
+    let items = items_in_turn();
+    batch_line(b"two in turn", register, &items);
+    counts_line(register);
+}
+
 fn main() {
     let mut granted = [0u32; 70];
     grant(&mut granted);
@@ -285,4 +310,8 @@ fn main() {
     let mut dated = [0u32; 70];
     lapses(&mut dated);
     names();
+    let mut both = [0u32; 118];
+    batches(&mut both);
+    let mut one = [0u32; 117];
+    short_batch(&mut one);
 }

@@ -2,7 +2,7 @@
 use mathlib.Core.Path.{sym}
 use lib.Seq.{length-take-le}
 use Rattle.register.specs.Calls.{Lent, check-own}
-use Rattle.search.proofs.Sought.{reads-register, header-there}
+use Rattle.search.proofs.Search.{reads-register, header-there}
 use Rattle.shared_tests.specs.Shared.{lent-of}
 use Rattle.shared_tests.proofs.OwnTests.{PassedSo, passed-so, TypedSo, table-within}
 use Rattle.check_call.proofs.Checks.{check-not-prepared, check-not-typed, check-type, check-term-found, check-missed, check-held}

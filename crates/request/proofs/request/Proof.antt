@@ -2,7 +2,7 @@
 use Rattle.register.specs.Records.{Ask, ask-of}
 use Rattle.register.specs.Calls.{Lent}
 use Rattle.shared_tests.specs.Shared.{lent-of}
-use Rattle.request.proofs.Grants.{request-kept, grantable-now, grant-room, request-granted}
+use Rattle.request.proofs.Grants.{request-kept, grantable-now, grant-room, granted-so, request-granted}
 use native.Mathlib.Omega.{arith}
 use borrow.Author.Needs.{needs}
 use Rattle.request.proofs.request.Statement.{statement}
@@ -55,13 +55,13 @@ add-grant-requires c κs =
     let at-grantable = c .before .before .before .before .before in
     let s = before-slice-known (before-grantable at-grantable) in
     let a = s .args in
-    let G = grantable-now (lent-here s) (a .register .now) (asked s) (at-grantable .grantable .result)
-    (at-grantable .grantable .ensures) (c .before .enum-told .given .1) in (
+    let e = granted-so (lent-here s) (a .register .now) (asked s) (at-grantable .grantable .result)
+    (at-grantable .grantable .ensures) (c .before .enum-told .given .1) in
+    let G = grantable-now (lent-here s) (a .register .now) (asked s) e in (
       omega (arith, G .operation, G .proof .ready .not-more),
       G .extract,
       G .delivery,
-      grant-room (lent-here s) (a .register .now) (asked s) (at-grantable .grantable .result) (at-grantable .grantable .ensures)
-          (c .before .enum-told .given .1),
+      grant-room (lent-here s) (a .register .now) (asked s) e,
     )
 
 same-length-3 : tie.Need-same-length-3

@@ -7,7 +7,7 @@ use borrow.Author.Needs.{needs}
 use Rattle.register.specs.Records.{Statement, statement-of, used}
 use Rattle.search.specs.declared.view.View.{View}
 use Rattle.records.proofs.Items.{records-there}
-use Rattle.search.proofs.Sought.{reads-view, header-there}
+use Rattle.search.proofs.Search.{reads-view, header-there}
 use Rattle.say.proofs.Statements.{say-missed, say-repeated, say-full, say-enough}
 use Rattle.say.proofs.addable.Statement.{statement}
 use Rattle.say.proofs.addable.Tie as tie

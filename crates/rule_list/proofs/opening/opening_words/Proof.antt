@@ -8,7 +8,7 @@ use lib.ListN.{length}
 use borrow.Author.Tests.{not-true, not-false}
 use Rattle.register.specs.Records.{rule-length-word, statements, states}
 use Rattle.register.specs.History.{each-once}
-use Rattle.search.proofs.Sought.{reads-rules}
+use Rattle.search.proofs.Search.{reads-rules}
 use Rattle.rule_list.proofs.RuleList.{Turn, turn, rule-at, Counting, counting-start, counting-repeated, counting-added, counting-end}
 use borrow.Author.Needs.{needs}
 use Rattle.rule_list.proofs.opening.opening_words.Statement.{statement}

@@ -1,0 +1,2 @@
+-- The grants of the items in turn, and what a batch leaves.
+pub mod GrantsInTurn

@@ -1,0 +1,2 @@
+-- What a batch answers and leaves.
+pub mod Answers

@@ -1,0 +1,2 @@
+-- The tests of the items in turn.
+pub mod TestsInTurn

@@ -1,0 +1,2 @@
+-- Laws of the buckets, one for each step of the code.
+pub mod Buckets

@@ -1,0 +1,2 @@
+-- Laws of lists of items, one for each step of the code.
+pub mod ItemPlaces
