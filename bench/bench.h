@@ -1,4 +1,5 @@
-// What the benchmarks share: the clock, the least of the rounds, calls that have to succeed, and the nested proof.
+// What the benchmarks share: the clock, the least of the rounds, calls that have to succeed, the says and requests of a
+// history, and the nested proof.
 #ifndef AURA0_BENCH_H
 #define AURA0_BENCH_H
 
@@ -28,6 +29,30 @@ static inline void want(uint64_t answer)
         printf("refused: %u at %u\n", aura0_number(answer), aura0_place(answer));
         exit(1);
     }
+}
+
+// A history of as many says as requests, in turn, all on one day, which every statement covers: with the rule r, 3,001
+// records. The register is the longest there is.
+enum { HISTORY = 1000, REGISTER_WORDS = 1048576 };
+
+// a3 says App C2 sk; nanoseconds
+static inline double say(uint32_t words[REGISTER_WORDS], uint32_t k)
+{
+    const uint32_t said[] = { OPENED(k) };
+    uint32_t added;
+    double start = now();
+    want(aura0_say(LIST(signature), OPERATIONS, words, REGISTER_WORDS, DAY, 3, SAY_FIRST, SAY_LAST, LIST(said),
+                   LIST(workspace), &added));
+    return now() - start;
+}
+
+// a request of the extract k as delivery k, whose proof is p for sk; nanoseconds
+static inline double request(uint32_t words[REGISTER_WORDS], uint32_t k)
+{
+    const uint32_t proves[] = { PROOF(k) };
+    double start = now();
+    want(aura0_request(LIST(signature), OPERATIONS, words, REGISTER_WORDS, DAY, 0, k, k, LIST(proves), LIST(workspace)));
+    return now() - start;
 }
 
 // thirteen Binds, one in the other, each of p; the innermost returns its variable

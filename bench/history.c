@@ -4,28 +4,9 @@
 #include <string.h>
 #include "bench.h"
 
-enum { CALLS = 1000, HEADER = 3 };
+enum { HEADER = 3 };
 
-static uint32_t words[1048576];
-
-// a3 says App C2 sk
-static double say(uint32_t k)
-{
-    const uint32_t said[] = { OPENED(k) };
-    uint32_t added;
-    double start = now();
-    want(aura0_say(LIST(signature), OPERATIONS, LIST(words), DAY, 3, SAY_FIRST, SAY_LAST, LIST(said), LIST(workspace), &added));
-    return now() - start;
-}
-
-// the proof is p for sk
-static double request(uint32_t k)
-{
-    const uint32_t proves[] = { PROOF(k) };
-    double start = now();
-    want(aura0_request(LIST(signature), OPERATIONS, LIST(words), DAY, 0, k, k, LIST(proves), LIST(workspace)));
-    return now() - start;
-}
+static uint32_t words[REGISTER_WORDS];
 
 int main(void)
 {
@@ -34,9 +15,9 @@ int main(void)
     for (int round = 0; round < ROUNDS; round++) {
         double says = 0, requests = 0;
         want(aura0_open(LIST(signature), OPERATIONS, LIST(words), LIST(rules), LIST(workspace)));
-        for (uint32_t k = 0; k < CALLS; k++) {
-            says += say(k);
-            requests += request(k);
+        for (uint32_t k = 0; k < HISTORY; k++) {
+            says += say(words, k);
+            requests += request(words, k);
         }
         best_say = least(best_say, says);
         best_request = least(best_request, requests);
@@ -44,16 +25,16 @@ int main(void)
         // a statement that no record has, and a proof by the last say; what each adds is taken back with the header
         memcpy(header, words, sizeof header);
         says = requests = 0;
-        for (uint32_t k = 0; k < CALLS; k++) {
-            says += say(CALLS);
+        for (uint32_t k = 0; k < HISTORY; k++) {
+            says += say(words, HISTORY);
             memcpy(words, header, sizeof header);
-            requests += request(CALLS - 1);
+            requests += request(words, HISTORY - 1);
             memcpy(words, header, sizeof header);
         }
         last_say = least(last_say, says);
         last_request = least(last_request, requests);
     }
     printf("history, %u records, %u words: %.0f ns a say, %.0f ns a request; at its end %.0f and %.0f\n",
-           words[1], words[0], best_say / CALLS, best_request / CALLS, last_say / CALLS, last_request / CALLS);
+           words[1], words[0], best_say / HISTORY, best_request / HISTORY, last_say / HISTORY, last_request / HISTORY);
     return 0;
 }

@@ -25,6 +25,9 @@
 #define WORDS(list) (sizeof(list) / sizeof((list)[0]))
 #define LIST(list) list, WORDS(list)
 
+// an item of a batch: operation 0, extract k, delivery u, and the words of a proof behind their number
+#define ITEM(k, u, ...) 0, k, u, WORDS(((const uint32_t[]){ __VA_ARGS__ })), __VA_ARGS__
+
 // C0 = Pi S P, C1 = Pi S Pi S P, C2 = Pi S P, C3 = Pi App C2 s7 P; one operation
 #define CONSTANTS 3, PI, S, P, 5, PI, S, PI, S, P, 3, PI, S, P, 5, PI, APP, C(2), TEXT(7), P
 static const uint32_t signature[] = { CONSTANTS };
@@ -42,6 +45,9 @@ static const uint32_t rules[] = { 0, RULE_FIRST, RULE_LAST, 13, RULE };
 #define PROOF(k) BIND, SIGN(0), RULE, RET, NAME(0), APP, APP, APP, V(0), TEXT(k), NAME(3), SIGN(3), OPENED(k)
 static const uint32_t proposition[] = { OPENED(7) };
 static const uint32_t proof[] = { PROOF(7) };
+
+// a proof of what p proves that uses the receipt of extract k and delivery u too: Bind Sign0 App App C1 sk su p
+#define PROOF_BY_RECEIPT(k, u) BIND, SIGN(0), APP, APP, C(1), TEXT(k), TEXT(u), PROOF(k)
 
 // the least workspace
 static uint32_t workspace[12288];

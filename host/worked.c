@@ -1,5 +1,5 @@
 // Document 01's worked register, with days, by the calls of include/aura0.h: prints what each call answers, and lists
-// the records. Then p in the edition with named variables.
+// the records. Then a batch of two requests, and p in the edition with named variables.
 #include <stdio.h>
 #include "sample.h"
 
@@ -41,13 +41,28 @@ static void request(uint32_t *words, size_t length, uint32_t day)
              words);
 }
 
-// Rule r, the say and the request.
-static void fill(uint32_t *words, size_t length)
+// Rule r and the say.
+static void start(uint32_t *words, size_t length)
 {
     printf("a register of %zu words\n", length);
     print("open", aura0_open(LIST(signature), OPERATIONS, words, length, LIST(rules), LIST(workspace)));
     say(words, length, DAY);
+}
+
+// Rule r, the say and the request.
+static void fill(uint32_t *words, size_t length)
+{
+    start(words, length);
     request(words, length, DAY);
+}
+
+// A batch: the index is that of the item refused.
+static void batch(uint32_t *words, size_t length, const uint32_t *items, size_t items_words)
+{
+    uint32_t index;
+    uint64_t answer = aura0_batch(LIST(signature), OPERATIONS, words, length, DAY, items, items_words, LIST(workspace), &index);
+    print_on(DAY, "batch", answer, words);
+    printf("index %u\n", index);
 }
 
 // The same request by the extract desk: a list of three homes, of which one has a survey, and an output of two words
@@ -102,7 +117,10 @@ static void convert(void)
 
 int main(void)
 {
-    static uint32_t words[70], fewer[69], more[111];
+    // a request with p, and one whose proof uses the receipt of the first, in this order and in the other
+    static const uint32_t in_turn[] = { ITEM(7, 9, PROOF(7)), ITEM(7, 10, PROOF_BY_RECEIPT(7, 9)) };
+    static const uint32_t other_order[] = { ITEM(7, 10, PROOF_BY_RECEIPT(7, 9)), ITEM(7, 9, PROOF(7)) };
+    static uint32_t words[70], fewer[69], more[111], both[118], one[117];
     size_t type_words;
 
     fill(words, 70);
@@ -124,6 +142,15 @@ int main(void)
     extract(more, 111, 6);
     extract(more, 111, 6);
     list(more, 111);
+
+    start(both, 118);
+    batch(both, 118, LIST(other_order));
+    batch(both, 118, LIST(in_turn));
+    list(both, 118);
+
+    // room for the first of the two alone
+    start(one, 117);
+    batch(one, 117, LIST(in_turn));
 
     convert();
     return 0;

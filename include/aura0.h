@@ -17,18 +17,20 @@ extern "C" {
 #endif
 
 // Document 01's refusal numbers, in the order of its table: "Tests run in this order". Beside 11 stand 18 to 20 of
-// document 02, slip 2, "each met where 11 was"; behind 5 and beside 14 stand 23 and 22 of its slip 5.
+// document 02, slip 2, "each met where 11 was"; behind 5 and beside 14 stand 23 and 22 of its slip 5. The list of a
+// batch has 5 and 7 before other tests: see aura0_batch.
 enum {
     AURA0_WORKSPACE_SHORT = 1,      // workspace short
     AURA0_REGISTER_LENGTH = 2,      // register length
     AURA0_REGISTER_BROKEN = 3,      // register broken
     AURA0_BAD_SIGNATURE = 4,        // signature; place: first bad constant's length word
     AURA0_BAD_NUMBER = 5,           // n, operation, principal, extract or delivery out of range, a permit or receipt
-                                    // type wrong or missing, or a first day after the last
-    AURA0_DAY_BEFORE_LATEST = 23,   // say and request: a day before the register's latest
+                                    // type wrong or missing, a first day after the last, or a batch of over 16 items
+    AURA0_DAY_BEFORE_LATEST = 23,   // say, request and batch: a day before the register's latest
     AURA0_DESK_SAYS = 15,           // say by principal 0
     AURA0_TERM_LENGTH = 6,          // term empty or too long
-    AURA0_MALFORMED = 7,            // malformed; place: first bad word, or the term's length
+    AURA0_MALFORMED = 7,            // malformed; place: first bad word, or the term's length; an item of a batch that
+                                    // its list ends inside; place 0
     AURA0_NESTING = 8,              // nesting; place: first word at depth 33
     AURA0_UNBOUND_VARIABLE = 9,     // unbound variable
     AURA0_UNKNOWN_CONSTANT = 10,    // unknown constant
@@ -64,9 +66,10 @@ enum { AURA0_RULE = 1, AURA0_SAY = 2, AURA0_GRANT = 3, AURA0_RECEIPT = 4 };
 static inline uint32_t aura0_number(uint64_t answer) { return (uint32_t)(answer >> 32); }
 static inline uint32_t aura0_place(uint64_t answer) { return (uint32_t)answer; }
 
-// Days are numbers of 32 bits. Word 2 of a register is its latest day, 0 after an opening. Each say and request that
-// succeeds sets it to its own day, which may not be before it. A statement holds from its first to its last day, both
-// included, a receipt from its grant's day on; for a call only statements that hold on its day count.
+// Days are numbers of 32 bits. Word 2 of a register is its latest day, 0 after an opening. The day of a say, a request
+// or a batch may not be before it. Each say and request that succeeds, and each batch that grants a request, sets it to
+// its own day. A statement holds from its first to its last day, both included, a receipt from its grant's day on; for
+// a call only statements that hold on its day count.
 
 // Writes the register anew with the rules of a rule list, each a principal, a first day, a last day, a length and a
 // proposition; a refusal of a rule is at its principal's index. It has no day: a signature in a rule may be any earlier
@@ -86,6 +89,19 @@ uint64_t aura0_say(const uint32_t *signature, size_t signature_words, uint32_t n
 uint64_t aura0_request(const uint32_t *signature, size_t signature_words, uint32_t n, uint32_t *register_, size_t register_words,
                        uint32_t day, uint32_t operation, uint32_t extract, uint32_t delivery,
                        const uint32_t *proof, size_t proof_words, uint32_t *workspace, size_t workspace_words);
+
+// Makes up to 16 requests of one day, of which all are granted or none. The list has items one behind another, each an
+// operation, an extract, a delivery, a length and a proof of so many words. Over 16 items, one that the list ends
+// inside included, are 5 at index 0 and place 0, before all else. Then items are taken in turn, each through all tests
+// of a request as if those before it were granted: their receipts are held, and their words are used. One that the list
+// ends inside is 7 at its index and place 0, before its own tests. The first item that is refused gives number and
+// place, and *index is its index; the register is left as it was, whatever items stood before it. Where none is
+// refused, *index is 0 and the register is what these requests, made one after another, leave.
+// A batch of no words makes tests 1 to 4, 5 for n and the permit and receipt types, and 23, all at index 0. It changes
+// no word of the register and sets no day, also where it succeeds.
+uint64_t aura0_batch(const uint32_t *signature, size_t signature_words, uint32_t n, uint32_t *register_, size_t register_words,
+                     uint32_t day, const uint32_t *items, size_t items_words,
+                     uint32_t *workspace, size_t workspace_words, uint32_t *index);
 
 // The extract desk. The list has at most 1,024 homes, strictly rising. The table has rows of a home and a code, flat,
 // at most 4,096, its homes strictly rising and no code AURA0_NO_SURVEY. The output has at least two words a home.

@@ -11,17 +11,20 @@
 #include "../host/sample.h"
 
 enum { PAGE = 4096, PAINT = 0xa5 };
-enum { MOST_WORDS = 2048, MOST_CONSTANT_WORDS = 256, MOST_NESTING = 32, HOMES = 1024, ROWS = 4096 };
+enum { MOST_WORDS = 2048, MOST_CONSTANT_WORDS = 256, MOST_NESTING = 32, MOST_ITEMS = 16, HOMES = 1024, ROWS = 4096 };
 
-enum call { OPEN, SAY, REQUEST, EXTRACT, CHECK, CHECK_TYPE, TO_NAMED, FROM_NAMED, READ, CALLS };
+enum call { OPEN, SAY, REQUEST, BATCH, EXTRACT, CHECK, CHECK_TYPE, TO_NAMED, FROM_NAMED, READ, CALLS };
 static const char *const names[CALLS] = {
-    "aura0_open", "aura0_say", "aura0_request", "aura0_extract", "aura0_check", "aura0_check_type", "aura0_to_named",
-    "aura0_from_named", "aura0_read"
+    "aura0_open", "aura0_say", "aura0_request", "aura0_batch", "aura0_extract", "aura0_check", "aura0_check_type",
+    "aura0_to_named", "aura0_from_named", "aura0_read"
 };
 
-// room for a signature, a term, or a rule: four words and a statement, which has one word less than a term
+// an item with p
+static const uint32_t item[] = { ITEM(7, 9, PROOF(7)) };
+
+// room for a signature, a term, a rule, or the items of a batch: four words and a term behind such items
 struct list {
-    uint32_t words[MOST_WORDS + 3];
+    uint32_t words[(MOST_ITEMS - 1) * WORDS(item) + 4 + MOST_WORDS];
     size_t length;
 };
 #define LENT(list) (list).words, (list).length
@@ -29,11 +32,12 @@ struct list {
 // what the calls are lent, and the number that each is to answer
 struct input {
     const char *name;
-    struct list signature, proof, statement, rules;
+    struct list signature, proof, statement, rules, items;
     uint32_t numbers[CALLS];
 };
 
-static uint32_t words[111], homes[HOMES], surveys[2 * ROWS], output[2 * HOMES];
+// the register has room for p's grant and receipt by a request, an extract and each item of a batch
+static uint32_t words[29 + (2 + MOST_ITEMS) * 41], homes[HOMES], surveys[2 * ROWS], output[2 * HOMES];
 
 static uint64_t make(enum call call, const struct input *in)
 {
@@ -47,6 +51,8 @@ static uint64_t make(enum call call, const struct input *in)
         return aura0_say(STATE, DAY, 3, SAY_FIRST, SAY_LAST, LENT(in->statement), LIST(workspace), &one);
     case REQUEST:
         return aura0_request(STATE, DAY, 0, 7, 9, LENT(in->proof), LIST(workspace));
+    case BATCH:
+        return aura0_batch(STATE, DAY, LENT(in->items), LIST(workspace), &one);
     case EXTRACT:
         return aura0_extract(STATE, DAY, 0, 7, 9, LENT(in->proof), LIST(homes), LIST(surveys), LIST(output), LIST(workspace));
     case CHECK:
@@ -195,10 +201,10 @@ int main(void)
     // taken for names; Lams as deep as a term nests, with as many words as it has, of which the last Lam breaks its
     // rule; document 01's register
     static struct input inputs[] = {
-        { .name = "App", .numbers = { 7, 7, 7, 7, 7, 7, 7, 7 } },
-        { .name = "constant", .numbers = { 4, 4, 4, 4, 4, 4, 7, 7 } },
-        { .name = "derivation", .numbers = { 11, 11, 13, 13, 0, 0, 0, 24 } },
-        { .name = "Lam", .numbers = { 11, 11, 11, 11, 11, 11, 0, 0 } },
+        { .name = "App", .numbers = { 7, 7, 7, 7, 7, 7, 7, 7, 7 } },
+        { .name = "constant", .numbers = { 4, 4, 4, 4, 4, 4, 4, 7, 7 } },
+        { .name = "derivation", .numbers = { 11, 11, 13, 13, 13, 0, 0, 0, 24 } },
+        { .name = "Lam", .numbers = { 11, 11, 11, 11, 11, 11, 11, 0, 0 } },
         { .name = "sample", .numbers = { [FROM_NAMED] = 24 } },
     };
     struct input *reading = &inputs[0], *constant = &inputs[1], *derivation = &inputs[2], *lams = &inputs[3];
@@ -226,6 +232,13 @@ int main(void)
         put(&in->rules, LENT(in->statement));
     }
     put(&sample->rules, LIST(rules));
+    // the most items: the proof stands in the last one, and p in those before it, which would be granted
+    for (struct input *in = inputs; in < end; in++) {
+        for (int i = 0; i < MOST_ITEMS - 1; i++)
+            put(&in->items, LIST(item));
+        PUT(&in->items, 0, 7, 10, in->proof.length);
+        put(&in->items, LENT(in->proof));
+    }
     // the longest list and table; every home has a survey
     for (uint32_t k = 0; k < HOMES; k++)
         homes[k] = 4 * k;

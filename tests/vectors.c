@@ -2,8 +2,9 @@
 // Makes the calls of the level in force and passes over those of another. Prints a line a file that counts both, and
 // each wrong answer with its file and line. The exit status is 1 where an answer was wrong or a file compared none.
 // After each call it also compares what was lent with what it was before: the signature and the term, the register
-// where it may not change (where a say adds nothing, only its latest day may), the register's words past the used
-// count, an output's words past the result, all of them where refused, and the words behind each buffer.
+// where it may not change (where a say adds nothing, only its latest day may; by a batch of no items, nothing), the
+// register's words past the used count, an output's words past the result, all of them where refused, and the words
+// behind each buffer.
 #define _POSIX_C_SOURCE 200809L
 #include <stdarg.h>
 #include <stdio.h>
@@ -13,7 +14,7 @@
 #include "../include/aura0.h"
 
 // the level in force: requests 1 to LEVEL of document 02 (request 4 changed no answer, so it has no level of its own)
-enum { LEVEL = 6, MOST = 1 << 21, GUARD = 16, PATTERN = 0x5a5a5a5a };
+enum { LEVEL = 7, MOST = 1 << 21, GUARD = 16, PATTERN = 0x5a5a5a5a };
 
 // a lent list of words, with a guard behind it, and what it held before the call
 struct lent {
@@ -149,7 +150,7 @@ static void same_from(const struct lent *list, size_t start, const char *what)
     }
 }
 
-// before a call with a term and a workspace of its own
+// before a call with a term, or a list of rules or items, and a workspace of its own
 static void lend(size_t words, const char *rest)
 {
     read_last(&term, rest);
@@ -252,6 +253,13 @@ static int call(const char *line)
         uint64_t code = aura0_request(STATE, ASKED(ask), LENT(term), LENT(workspace));
         take_back(code == 0 ? RECORDS : NOTHING);
         put("request %u %u", aura0_number(code), aura0_place(code));
+    } else if ((rest = after(line, "batch")) != NULL) {
+        size_t words = read_number(&rest, MOST);
+        uint32_t day = read_number(&rest, UINT32_MAX), index = PATTERN;
+        lend(words, rest);
+        uint64_t code = aura0_batch(STATE, day, LENT(term), LENT(workspace), &index);
+        take_back(code == 0 && term.length > 0 ? RECORDS : NOTHING);
+        put("batch %u %u %u", aura0_number(code), index, aura0_place(code));
     } else if ((rest = after(line, "extract")) != NULL) {
         size_t words = read_number(&rest, MOST);
         struct ask ask = read_ask(&rest);
