@@ -21,7 +21,7 @@ use Rattle.batch.specs.Answers.{BatchedAs, AllGranted, GrantRoom}
 use Rattle.batch_tests.specs.declared.Batched.{Batched as BatchedCode}
 use Rattle.batch_tests.specs.declared.Batched.the-variants.{Granted, Refused}
 use Rattle.request.proofs.Grants.{grantable-now, grant-room}
-use Rattle.item_list.proofs.ItemPlaces.{WholeAt, no-items}
+use Rattle.item_list.proofs.ItemPlaces.{WholeAt, no-items-left}
 
 -- ---- the grants
 
@@ -50,7 +50,7 @@ pub record Granting (old now : List ℕ) (day : ℕ) (ws : List ℕ) (at : ℕ) 
 
 module _ {old now : List ℕ} {day : ℕ} {ws : List ℕ} {at : ℕ} (G : Granting old now day ws at) where
   pub grants-ended : length ws ≤ at → (l : Lent) (new : List ℕ) → GrantedInTurn l old (items day ws) new → now ≡ new
-  grants-ended h l new g = none-granted (G .same l new g) (no-items day ws at h)
+  grants-ended h l new g = none-granted (G .same l new g) (no-items-left day ws at h)
 
   -- no item is cut short
   pub grants-not-cut : items day (drop at ws) ≡ none ∷ [] → ⊥
@@ -84,8 +84,8 @@ granting-start a = record { within = omega arith; left = a; same = λ l new g. g
 -- ---- what a batch leaves
 
 module _ (l : Lent) (reg : List ℕ) (day : ℕ) (ws : List ℕ) (r : BatchedCode) (e : batched-answer r ≡ batch-call l reg day ws) where
-  pub batch-kept : (i m p : ℕ) → r ≡ Refused i m p → BatchedAs l reg day ws reg r
-  batch-kept i m p q = record { answer = e; register = sym (batches .unchanged l reg day ws i m p (sym e ∙ ap batched-answer q)) }
+  pub batched-kept : (i m p : ℕ) → r ≡ Refused i m p → BatchedAs l reg day ws reg r
+  batched-kept i m p q = record { answer = e; register = sym (batches .unchanged l reg day ws i m p (sym e ∙ ap batched-answer q)) }
 
   module _ (q : r ≡ Granted) where
     succeeds : batch-call l reg day ws ≡ all-granted

@@ -28,7 +28,7 @@ use Rattle.search.specs.declared.view.View.{View as SearchView}
 use Rattle.search.specs.Sources.{register-view}
 use Rattle.item_list.specs.Items.{ask-at}
 use Rattle.request.specs.Requested.{Seen}
-use Rattle.item_list.proofs.ItemPlaces.{WholeAt, no-items}
+use Rattle.item_list.proofs.ItemPlaces.{WholeAt, no-items-left}
 
 -- ---- one request more
 
@@ -133,7 +133,7 @@ module _ (g : Given) (reg : List ℕ) (day : ℕ) (ws : List ℕ) where
         register-content reg ≡ ok c → all-granted ≡ items-own day 0 [] (items day ws) (view l (outline-of reg) c Σ)
     unfolding items-own
     tests-ended h l Σ c n C r =
-        sym (T .same l Σ c n C r ∙ ap (λ xs. items-own day index (T .ks) xs (view l (outline-of reg) c Σ)) (no-items day ws at h))
+        sym (T .same l Σ c n C r ∙ ap (λ xs. items-own day index (T .ks) xs (view l (outline-of reg) c Σ)) (no-items-left day ws at h))
 
     -- the next is cut short
     pub tests-cut : items day (drop at ws) ≡ none ∷ [] → (l : Lent) (Σ : List Term) (c : Content) → l .n ≡ g .n →
@@ -159,10 +159,10 @@ module _ (g : Given) (reg : List ℕ) (day : ℕ) (ws : List ℕ) where
           T .same l Σ c n C r ∙ ap (λ xs. items-own day index (T .ks) xs s) (w .is)
           ∙ ap (λ o. at-index index o (items-own day (suc index) (T .ks ++ (here ∷ [])) (items day (drop end ws)) s)) (sym (answered l Σ c n C r))
 
-      pub tests-refused : (m p : ℕ) → o ≡ refused m p → (l : Lent) (Σ : List Term) (c : Content) → l .n ≡ g .n →
+      pub item-refused-so : (m p : ℕ) → o ≡ refused m p → (l : Lent) (Σ : List Term) (c : Content) → l .n ≡ g .n →
           ConstantsOf (g .sig) (g .table) Σ → register-content reg ≡ ok c →
           refused-at index m p ≡ items-own day 0 [] (items day ws) (view l (outline-of reg) c Σ)
-      tests-refused m p f l Σ c n C r =
+      item-refused-so m p f l Σ c n C r =
           let s = view l (outline-of reg) c Σ in
           sym (turn l Σ c n C r
           ∙ ap (λ o. at-index index o (items-own day (suc index) (T .ks ++ (here ∷ [])) (items day (drop end ws)) s)) f)
@@ -227,7 +227,7 @@ module _ (l : Lent) (reg : List ℕ) (day : ℕ) (ws : List ℕ) where
         ∙ sym (tested-once .same-answer l reg day ws)
 
     pub empty-tested : length ws ≡ 0 → at-index 0 (on-register l reg (day-test day)) all-granted ≡ batch-call l reg day ws
-    empty-tested h = tested-so [] (no-items day ws 0 (omega (arith, h)))
+    empty-tested h = tested-so [] (no-items-left day ws 0 (omega (arith, h)))
 
     pub cut-first : items day ws ≡ none ∷ [] → refused-at 0 malformed 0 ≡ batch-call l reg day ws
     cut-first f = tested-so (none ∷ []) f

@@ -32,10 +32,10 @@ use Rattle.editions.proofs.Unbound.{variable-within, convert-refused, c
 
 -- ---- both calls read a term, convert it and look whether it fits
 
-abbrev pub in-turn : Edition → List ℕ → ℕ → Result (List ℕ)
-in-turn e ws room = edition-term e ws >>= λ s. convert e [] 0 s >>= λ t. fitting room (encode′ t)
+abbrev pub converted-in-turn : Edition → List ℕ → ℕ → Result (List ℕ)
+converted-in-turn e ws room = edition-term e ws >>= λ s. convert e [] 0 s >>= λ t. fitting room (encode′ t)
 
-to-named-is : (ws : List ℕ) (room : ℕ) → to-named ws room ≡ in-turn Counts ws room
+to-named-is : (ws : List ℕ) (room : ℕ) → to-named ws room ≡ converted-in-turn Counts ws room
 to-named-is ws room = go (term-of most-words most-nesting ws) ∙ sym (ap (λ r. r >>= rest) (counts-term ws))
   where
     rest : Named → Result (List ℕ)
@@ -57,7 +57,7 @@ names-counted (means-var m) = refl
 names-counted (means-sign {p = p} m) = ap (sign′ p) (names-counted m)
 names-counted (means-node {ns = ns} {o = o} m n) = rw (zero-label (binds o) ns, names-counted m, names-counted n)
 
-from-named-is : (ws : List ℕ) (room : ℕ) → from-named ws room ≡ in-turn Names ws room
+from-named-is : (ws : List ℕ) (room : ℕ) → from-named ws room ≡ converted-in-turn Names ws room
 from-named-is ws room = go (edition-term Names ws)
   where
     step : (s : Named) (u : Result Named) → convert Names [] 0 s ≡ u →
@@ -69,7 +69,7 @@ from-named-is ws room = go (edition-term Names ws)
     go (ok s) = step s (convert Names [] 0 s) refl
     go (refused m p) = refl
 
-pub converted-is : (e : Edition) (ws : List ℕ) (room : ℕ) → converted e ws room ≡ in-turn e ws room
+pub converted-is : (e : Edition) (ws : List ℕ) (room : ℕ) → converted e ws room ≡ converted-in-turn e ws room
 converted-is Names = from-named-is
 converted-is Counts = to-named-is
 
@@ -79,7 +79,7 @@ module _ (e : Edition) (ws : List ℕ) (room : ℕ) where
   same-length : (s t : Named) → WordsOf′ e ws s → convert e [] 0 s ≡ ok t → length (encode′ t) ≡ length ws
   same-length s t h q = encode-size′ t ∙ means-size (convert-means e s [] 0 q) ∙ sym (encode-size′ s) ∙ ap length (sym (h .words))
 
-  in-turn-right : (xs : List ℕ) → (in-turn e ws room ≡ ok xs) ↔ Converts e ws room xs
+  in-turn-right : (xs : List ℕ) → (converted-in-turn e ws room ≡ ok xs) ↔ Converts e ws room xs
   in-turn-right xs = (
     (λ q. bound (edition-term e ws) _ q λ s q₁ q₂. bound (convert e [] 0 s) _ q₂ λ t q₃ q₄. tested (leb (length (encode′ t)) room) _ _ _ q₄ λ l q₅.
         let h = edition-term-right e ws s .0 q₁ in
@@ -91,10 +91,10 @@ module _ (e : Edition) (ws : List ℕ) (room : ℕ) where
         (pass _ _ (le-leb (length (encode′ (c .t))) room (omega (arith, c .fits))) (ap ok (sym (c .words)))))),
   )
 
-  in-turn-length : (xs : List ℕ) → in-turn e ws room ≡ ok xs → length xs ≡ length ws
+  in-turn-length : (xs : List ℕ) → converted-in-turn e ws room ≡ ok xs → length xs ≡ length ws
   in-turn-length xs q = let c = in-turn-right xs .0 q in ap length (c .words) ∙ same-length (c .s) (c .t) (c .term) (c .converts)
 
-  refused-right : {m p : ℕ} → ConvertRefused e ws room m p → in-turn e ws room ≡ refused m p
+  refused-right : {m p : ℕ} → ConvertRefused e ws room m p → converted-in-turn e ws room ≡ refused m p
   refused-right (convert-6 h) = stop _ (refused-6 e ws h)
   refused-right (convert-7 {p = p} g h) = stop _ (refused-7 e ws p g h)
   refused-right (convert-8 {p = p} g h) = stop _ (refused-8 e ws p g h)
@@ -104,7 +104,7 @@ module _ (e : Edition) (ws : List ℕ) (room : ℕ) where
       let n = same-length s t h q in
       bind-is _ (edition-term-right e ws s .1 h) (bind-is _ q (fail _ _ _ (lt-leb (length (encode′ t)) room (omega arith))))
 
-  right-refused : (m p : ℕ) → in-turn e ws room ≡ refused m p → ConvertRefused e ws room m p
+  right-refused : (m p : ℕ) → converted-in-turn e ws room ≡ refused m p → ConvertRefused e ws room m p
   right-refused m p q =
       stopped (edition-term e ws) _ q (tests-refused e ws room m p) λ s q₁ q₂.
       let h = edition-term-right e ws s .0 q₁ in
@@ -114,7 +114,7 @@ module _ (e : Edition) (ws : List ℕ) (room : ℕ) where
       failed (leb (length (encode′ t)) room) _ _ _ q₄ (λ b x y. rw (x, y) (convert-25 h (convert-bound e s .0 (t, q₃)) (omega (arith, l b))))
       λ b q₅. absurd (not-refused q₅)
 
-  in-turn-refused : (m p : ℕ) → (in-turn e ws room ≡ refused m p) ↔ ConvertRefused e ws room m p
+  in-turn-refused : (m p : ℕ) → (converted-in-turn e ws room ≡ refused m p) ↔ ConvertRefused e ws room m p
   in-turn-refused m p = (right-refused m p, refused-right)
 
 -- every refusal has one of the numbers, and a place within the term's words or just behind them
@@ -139,7 +139,7 @@ past e ws xs old z =
 
 pub converters : ConvertersDemand
 converters = record {
-  answers = λ e ws room. rw (converted-is e ws room) (one-answer (in-turn e ws room) (in-turn-right e ws room) (in-turn-refused e ws room));
+  answers = λ e ws room. rw (converted-is e ws room) (one-answer (converted-in-turn e ws room) (in-turn-right e ws room) (in-turn-refused e ws room));
   unchanged = λ e {ws} {room} old h. ap (λ r. after-write r old) (converted-is e ws room ∙ refused-right e ws room h);
   past = past;
 }

@@ -63,9 +63,9 @@ module _ (day : ℕ) (ws : List ℕ) (at : ℕ) (within : at ≤ length ws) wher
     proof-cut-at g = front-long day at (drop at ws) long false
         (lt-leb (getD (drop at ws) item-length-word 0) (length (drop at ws) - item-head) (omega (arith, g, left, length-word)))
 
-    pub whole-at : getD ws (at + item-length-word) 0 ≤ length ws - at - item-head →
+    pub item-whole-at : getD ws (at + item-length-word) 0 ≤ length ws - at - item-head →
         Whole (at + item-head + getD ws (at + item-length-word) 0) ≡ found-at at (next-item day (drop at ws))
-    whole-at g =
+    item-whole-at g =
         ap (λ (m : ℕ). Whole (at + item-head + m)) (sym length-word)
         ∙ front-long day at (drop at ws) long true
         (le-leb (getD (drop at ws) item-length-word 0) (length (drop at ws) - item-head) (omega (arith, g, left, length-word)))
@@ -122,8 +122,8 @@ module _ (day : ℕ) (ws : List ℕ) (at : ℕ) (r : Item) (e : r ≡ found-at a
       go (whole-item k rest) f g = found k rest f (cc)
 
 -- no item is left at the end of a list
-pub no-items : (day : ℕ) (ws : List ℕ) (at : ℕ) → length ws ≤ at → items day (drop at ws) ≡ []
-no-items day ws at g = ap (items day) (drop-of-length-le ws g) ∙ items-step day []
+pub no-items-left : (day : ℕ) (ws : List ℕ) (at : ℕ) → length ws ≤ at → items day (drop at ws) ≡ []
+no-items-left day ws at g = ap (items day) (drop-of-length-le ws g) ∙ items-step day []
 
 -- ---- how many there are
 
@@ -161,4 +161,4 @@ last-counted {ws} {at} {count} h g l r e q day =
 pub all-counted : {ws : List ℕ} {at count : ℕ} → Counted ws at count → count ≤ most-items → length ws ≤ at → (day : ℕ) →
     true ≡ leb (length (items day ws)) most-items
 all-counted {ws} {at} h l g day =
-    sym (le-leb (length (items day ws)) most-items (omega (arith, h .sum day, l, ap length (no-items day ws at g))))
+    sym (le-leb (length (items day ws)) most-items (omega (arith, h .sum day, l, ap length (no-items-left day ws at g))))

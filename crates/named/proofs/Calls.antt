@@ -30,7 +30,7 @@ use Rattle.named.specs.declared.convert.Ending.the-variants.{End, Unboun
 use Rattle.editions.proofs.Words.{encode-size′}
 use Rattle.editions.proofs.Editions.{edition-term-right}
 use Rattle.editions.proofs.Means.{convert-means, means-size}
-use Rattle.editions.proofs.Refuses.{in-turn, converted-is}
+use Rattle.editions.proofs.Refuses.{converted-in-turn, converted-is}
 use Rattle.named.proofs.Writes.{Writes, wrote-end, wrote-unbound}
 
 -- what holds of a result holds of its equal
@@ -51,7 +51,7 @@ pub whole-at : {e : Edition} {ws : List ℕ} {s : Named} → WordsOf′ e ws s �
 whole-at {s} w = record { plain = w .plain; rest = []; words = w .words ∙ sym (append-nil (encode′ s)) }
 
 module _ (e : Edition) (ws old : List ℕ) where
-  is : converted e ws (length old) ≡ in-turn e ws (length old)
+  is : converted e ws (length old) ≡ converted-in-turn e ws (length old)
   is = converted-is e ws (length old)
 
   -- ---- tests 6 to 8

@@ -17,7 +17,7 @@ use Rattle.register.specs.Records.{Ask, Content, Dated, covered, lapsed,
 use Rattle.register.specs.Records.{statements, some-of, says, serves, holding, states}
 use Rattle.register.specs.Calls.{Lent, View, view, shared, on-register, entry, request-own, request-call}
 use Rattle.register.specs.Batch.{most-items, items, asks, Batched, refused-at, after-item, at-index, in-turn, items-call}
-use Rattle.register.specs.Batch.{entries, day-if, granted-words, GrantedInTurn, none-left, one-more}
+use Rattle.register.specs.Batch.{all-entries, day-if, granted-words, GrantedInTurn, none-left, one-more}
 use Rattle.register.specs.BatchTests.{AllOn, receipted, with-receipts, view-behind, items-own, at-start, items-once, TestedOnce}
 use Rattle.register.specs.Succeeds.{Ready}
 use Rattle.register.specs.Refuses.{SharedRefused}
@@ -56,10 +56,10 @@ holding-behind day ds ks h a q =
 
 -- ---- what an item's tests see
 
-entries-words : (ks : List Ask) → length (words-of (entries ks)) ≡ granted-words ks
-unfolding words-of encode entries granted-words
+entries-words : (ks : List Ask) → length (words-of (all-entries ks)) ≡ granted-words ks
+unfolding words-of encode all-entries granted-words
 entries-words [] = refl
-entries-words (k ∷ ks) = let h = entries-words ks in let g = words-grown (entry k) (entries ks) in simp length-append (omega arith)
+entries-words (k ∷ ks) = let h = entries-words ks in let g = words-grown (entry k) (all-entries ks) in simp length-append (omega arith)
 
 content-one-more : (c : Content) (ks : List Ask) (k : Ask) → content-behind c (ks ++ (k ∷ [])) ≡ grown (content-behind c ks) (k .day) (entry k)
 unfolding content-behind
@@ -80,13 +80,14 @@ module _ (l : Lent) {len : ℕ} {Σ : List Term} (c : Content) (ready : Ready l 
       let c′ = content-behind c ks in
       let is = content-behind-is c day ks h in
       let stated : statements (c′ .records) ≡ statements (c .records) ++ map receipt-dated ks =
-      ap (λ (x : Content). statements (x .records)) is ∙ grown-states c (day-if ks (c .latest) day) (entries ks) (map receipt-dated ks) (entries-states ks) in
+      ap (λ (x : Content). statements (x .records)) is
+      ∙ grown-states c (day-if ks (c .latest) day) (all-entries ks) (map receipt-dated ks) (entries-states ks) in
       let held : holding (some (k .day)) (statements (c′ .records)) ≡ with-receipts ks (holding (some (k .day)) (statements (c .records))) =
       fun-ext λ a. fun-ext λ q. ap (λ ds. holding (some (k .day)) ds a q) stated
       ∙ holding-behind (k .day) (statements (c .records)) ks (subst (λ d. AllOn d ks) (sym e) h) a q in
       let last : c′ .latest ≡ day-if ks (c .latest) day = ap (λ (x : Content). x .latest) is in
       let sum : used-by (c′ .records) ≡ used-by (c .records) + granted-words ks =
-      ap (λ (x : Content). used-by (x .records)) is ∙ omega (arith, words-grown (c .records) (entries ks), entries-words ks) in
+      ap (λ (x : Content). used-by (x .records)) is ∙ omega (arith, words-grown (c .records) (all-entries ks), entries-words ks) in
       shared-is l (outlined len c′) c′ (request-own k) ready refl
       ∙ λ i. request-own k (record {
         Σ = Σ;

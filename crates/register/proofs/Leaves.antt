@@ -10,7 +10,7 @@ use lib.Seq.{drop-drop, drop-append-add}
 use Rattle.register.specs.Records.{Record, Statement, Ask, Content, header, words-of, used, used-by, Unbroken, Shaped}
 use Rattle.register.specs.Records.{appended, written}
 use Rattle.register.specs.Calls.{Lent, say-entry, entry, new-content, after-open, after-say, after-request}
-use Rattle.register.specs.Batch.{items, asks, after-requests, batch-leaves, entries, ItemsOf}
+use Rattle.register.specs.Batch.{items, asks, after-requests, batch-leaves, all-entries, ItemsOf}
 use Rattle.register.specs.BatchTests.{AllOn}
 use Rattle.register.specs.Succeeds.{Adds, added-now, GrantableInTurn, no-request, one-request, Batchable, together}
 use Rattle.register.specs.History.{grown}
@@ -111,7 +111,7 @@ asks-some (k ∷ ks) = ap (λ (l : List Ask). k ∷ l) (asks-some ks)
 
 -- a batch whose items are the requests k ∷ ks
 batch-leaving : {l : Lent} {reg : List ℕ} {day : ℕ} {ws : List ℕ} {c : Content} (k : Ask) (ks : List Ask) → ItemsOf day ws (map some (k ∷ ks)) →
-    Batchable l reg day (map some (k ∷ ks)) → Unbroken reg c → Leaves reg day (c .records ++ entries (k ∷ ks)) (batch-leaves l reg day ws)
+    Batchable l reg day (map some (k ∷ ks)) → Unbroken reg c → Leaves reg day (c .records ++ all-entries (k ∷ ks)) (batch-leaves l reg day ws)
 batch-leaving {l} {reg} {day} {ws} {c} k ks o (together few g) u =
     let those : asks (items day ws) ≡ k ∷ ks = ap asks (batches .listed day ws (map some (k ∷ ks)) .1 o) ∙ asks-some (k ∷ ks) in
     let content = content-behind-is c day (k ∷ ks) (subst (AllOn day) those (items-day (length ws) day ws)) in

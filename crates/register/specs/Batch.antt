@@ -107,9 +107,9 @@ batch-leaves l reg day ws = after-batch (batch-call l reg day ws) l reg (asks (i
 -- ---- what requests that are all granted leave
 
 -- the records that they add
-unfoldable pub entries : List Ask → List Record
-entries [] = []
-entries (k ∷ ks) = entry k ++ entries ks
+unfoldable pub all-entries : List Ask → List Record
+all-entries [] = []
+all-entries (k ∷ ks) = entry k ++ all-entries ks
 
 -- the words of these: p + 14 for each
 unfoldable pub granted-words : List Ask → ℕ

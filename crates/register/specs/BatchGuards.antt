@@ -129,18 +129,18 @@ abbrev pub second-request : Call
 second-request = request 12288 (ask-of 0 7 10 15 (encode using-receipt))
 
 -- the records of the register before and behind them
-abbrev pub record-of : (kind : ℕ) → List ℕ → Record
-record-of kind body = record { kind = kind; body = body }
+abbrev pub record-with : (kind : ℕ) → List ℕ → Record
+record-with kind body = record { kind = kind; body = body }
 
 abbrev pub rule-of-desk : Record
-rule-of-desk = record-of 1 (0 ∷ 10 ∷ 20 ∷ encode permitted)
+rule-of-desk = record-with 1 (0 ∷ 10 ∷ 20 ∷ encode permitted)
 
 abbrev pub ruled-content : Content
 ruled-content = record { latest = 12; records = rule-of-desk ∷ [] }
 
 abbrev pub entered : List Record
-entered = record-of 3 (0 ∷ 7 ∷ 9 ∷ 15 ∷ encode desk-permits) ∷ record-of 4 (0 ∷ encode receipt-proved) ∷
-    record-of 3 (0 ∷ 7 ∷ 10 ∷ 15 ∷ encode using-receipt) ∷ record-of 4 (0 ∷ encode other-receipt-proved) ∷ []
+entered = record-with 3 (0 ∷ 7 ∷ 9 ∷ 15 ∷ encode desk-permits) ∷ record-with 4 (0 ∷ encode receipt-proved) ∷
+    record-with 3 (0 ∷ 7 ∷ 10 ∷ 15 ∷ encode using-receipt) ∷ record-with 4 (0 ∷ encode other-receipt-proved) ∷ []
 
 pub record BatchGuards : Type 0 where
   -- "A delivery often needs up to 16 requests granted together": 1, 2 and 16, and the last of 16 is tried

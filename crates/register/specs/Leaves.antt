@@ -8,7 +8,7 @@ use mathlib.Core.Option.{some}
 use lib.ListN.{length, drop}
 use Rattle.register.specs.Records.{Record, Statement, Ask, Content, Unbroken, used}
 use Rattle.register.specs.Calls.{Lent, say-entry, entry, open-call, after-open, say-call, after-say, request-call, after-request}
-use Rattle.register.specs.Batch.{ItemsOf, batch-leaves, entries}
+use Rattle.register.specs.Batch.{ItemsOf, batch-leaves, all-entries}
 use Rattle.register.specs.Succeeds.{Openable, Sayable, Grantable, Batchable}
 
 -- the register has the latest day and the records, and "words past the new used count are unchanged"
@@ -31,4 +31,4 @@ pub record Leaving : Type 0 where
   -- a batch adds the grant and the receipt of each request in turn, and sets the latest day; that an empty one leaves
   -- every word is said in Batches
   pub batched : {l : Lent} {reg : List ℕ} {day : ℕ} {ws : List ℕ} {c : Content} (k : Ask) (ks : List Ask) → ItemsOf day ws (map some (k ∷ ks)) →
-      Batchable l reg day (map some (k ∷ ks)) → Unbroken reg c → Leaves reg day (c .records ++ entries (k ∷ ks)) (batch-leaves l reg day ws)
+      Batchable l reg day (map some (k ∷ ks)) → Unbroken reg c → Leaves reg day (c .records ++ all-entries (k ∷ ks)) (batch-leaves l reg day ws)

@@ -143,6 +143,6 @@ unfolding asks-words AllInRange
 none-asked = record { words = refl; in-range = tt }
 
 -- and without requests is known what is held
-pub behind-none : (h : Holding) (t : Term) → signs-held (with-receipts [] h) t ≡ signs-held h t
+pub signs-behind-none : (h : Holding) (t : Term) → signs-held (with-receipts [] h) t ≡ signs-held h t
 unfolding some-of
-behind-none h t = refl
+signs-behind-none h t = refl

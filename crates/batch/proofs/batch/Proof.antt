@@ -2,7 +2,7 @@
 use borrow.Author.Needs.{needs}
 use Rattle.register.specs.Calls.{Lent}
 use Rattle.shared_tests.specs.Shared.{lent-of}
-use Rattle.batch.proofs.GrantsInTurn.{batch-kept, batch-left, granted-all}
+use Rattle.batch.proofs.GrantsInTurn.{batched-kept, batch-left, granted-all}
 use Rattle.batch.proofs.batch.Statement.{statement}
 use Rattle.batch.proofs.batch.Tie as tie
 
@@ -39,7 +39,7 @@ returns : tie.Need-returns
 returns c =
     let t = c .before .before .before .before in
     let s = start t in
-    batch-kept (lent-here s) (s .args .register .now) (s .args .day) (s .args .items .now) (t .testable .result) (t .testable .ensures) _ _ _
+    batched-kept (lent-here s) (s .args .register .now) (s .args .day) (s .args .items .now) (t .testable .result) (t .testable .ensures) _ _ _
     (c .enum-told2 .given .1)
 
 grant-items-requires : tie.Need-grant-items-requires

@@ -21,7 +21,7 @@ use Rattle.buckets.specs.Buckets.{Buckets}
 use Rattle.shared_tests.specs.Shared.{lent-of}
 use Rattle.item_list.specs.Items.{ask-at}
 use Rattle.item_list.proofs.ItemPlaces.{WholeAt, whole-there, cut-there}
-use Rattle.batch_tests.proofs.TestsInTurn.{Given, Testing, testing-start, seen-so, tests-ended, tests-cut, tests-refused, sum-fits, testing-next}
+use Rattle.batch_tests.proofs.TestsInTurn.{Given, Testing, testing-start, seen-so, tests-ended, tests-cut, item-refused-so, sum-fits, testing-next}
 use Rattle.batch_tests.proofs.test_items.Statement.{statement}
 use Rattle.batch_tests.proofs.test_items.Tie as tie
 
@@ -197,7 +197,7 @@ returns-2 c =
     let at-loop = turn (found (t .before)) .before in
     let s = start (viewed at-loop) in
     let a = s .args in
-    tests-refused (given s) (a .register .now) (a .day) (a .items .now) (at-loop .loop .inv .1) (whole (t .before))
+    item-refused-so (given s) (a .register .now) (a .day) (a .items .now) (at-loop .loop .inv .1) (whole (t .before))
     (verdict-answer (t .test-item .result)) (answered t) _ _ (ap verdict-answer (c .before .verdict .given .1))
 
 enum-told-2 : tie.Need-enum-told-2 Inv-loop μ-loop

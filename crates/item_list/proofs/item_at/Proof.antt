@@ -3,7 +3,7 @@ use Prim.Native.Nat.{_+_}
 use native.Mathlib.Omega.{arith}
 use borrow.Author.Needs.{needs}
 use Rattle.register.specs.Records.{item-length-word}
-use Rattle.item_list.proofs.ItemPlaces.{head-cut-at, proof-cut-at, whole-at}
+use Rattle.item_list.proofs.ItemPlaces.{head-cut-at, proof-cut-at, item-whole-at}
 use Rattle.item_list.proofs.item_at.Statement.{statement}
 use Rattle.item_list.proofs.item_at.Tie as tie
 
@@ -43,7 +43,7 @@ add-t5 c = search needs
 returns-3 : tie.Need-returns-3
 returns-3 c =
     let s = start (c .before) in
-    λ day. whole-at day (s .args .items .now) (s .args .at) (s .pre) (omega (arith, c .before .before .if1 .left)) (omega (arith, c .if2 .left))
+    λ day. item-whole-at day (s .args .items .now) (s .args .at) (s .pre) (omega (arith, c .before .before .if1 .left)) (omega (arith, c .if2 .left))
 
 pub item-at-spec : {M : Type 1} → statement M
 item-at-spec =

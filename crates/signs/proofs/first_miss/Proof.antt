@@ -3,7 +3,7 @@ use mathlib.Core.Path.{_∙_}
 use mathlib.Core.List.{[]}
 use Rattle.register.specs.Records.{statements}
 use Rattle.sought.specs.Sought.{sought}
-use Rattle.signs.proofs.Receipts.{none-asked, behind-none}
+use Rattle.signs.proofs.Receipts.{none-asked, signs-behind-none}
 use Rattle.buckets.proofs.Buckets.{empty-buckets}
 use native.Mathlib.Omega.{arith}
 use borrow.Author.Needs.{needs}
@@ -24,7 +24,7 @@ first-miss-behind-requires c κs =
 returns : tie.Need-returns
 returns c =
     let a = c .before .before .before .before .before .args in
-    λ rs t f is. c .first-miss-behind .ensures rs [] t f none-asked is ∙ behind-none (sought (a .when) (statements rs)) t
+    λ rs t f is. c .first-miss-behind .ensures rs [] t f none-asked is ∙ signs-behind-none (sought (a .when) (statements rs)) t
 
 pub first-miss-spec : {M : Type 1} → statement M
 first-miss-spec =
