@@ -1,2 +1,2 @@
--- The first two demands hold.
+-- The demands hold.
 pub mod Demands

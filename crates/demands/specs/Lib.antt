@@ -1,2 +1,2 @@
--- The first two demands, for all calls.
+-- The demands, for all calls.
 pub mod Demands

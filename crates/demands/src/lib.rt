@@ -1,1 +1,1 @@
-// The first two demands for all calls are stated in specs/ and proved in proofs/; there is no code here.
+// The demands for all calls are stated in specs/ and proved in proofs/; there is no code here.

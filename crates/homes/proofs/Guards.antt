@@ -1,10 +1,11 @@
 -- The guards hold, by computing.
 use mathlib.Core.Path.{refl}
 use Rattle.homes.specs.Homes.{rising, rows, formed, survey-code, joined, write-call}
+use Rattle.homes.specs.Right.{with-code, without-code}
 use Rattle.homes.specs.Guards.{HomesGuards}
 
 pub homes-guards : HomesGuards
-unfolding rising rows formed survey-code joined write-call
+unfolding rising rows formed survey-code joined write-call with-code without-code
 homes-guards = record {
   homes = refl;
   table-rows = refl;
@@ -24,6 +25,8 @@ homes-guards = record {
   nothing = refl;
   written = refl;
   words = refl;
+  with-a-code = refl;
+  without-one = refl;
   refusal = refl;
   unchanged = refl;
 }

@@ -5,6 +5,7 @@ use mathlib.Core.List.{[], _∷_}
 use Rattle.logic.specs.Result.{ok, refused}
 use Rattle.words.specs.Place.{after-write}
 use Rattle.homes.specs.Homes.{most-homes, most-rows, no-survey, formed, write-call}
+use Rattle.homes.specs.Right.{with-code, without-code}
 
 pub record HomesGuards : Type 0 where
   -- "at most 1,024", "at most 4,096 rows", "4294967295"
@@ -34,6 +35,9 @@ pub record HomesGuards : Type 0 where
       after-write (write-call (3 ∷ 7 ∷ 10 ∷ []) (1 ∷ 5 ∷ 3 ∷ 0 ∷ 8 ∷ 2 ∷ 10 ∷ 4 ∷ 12 ∷ 1 ∷ []) 8) (11 ∷ 12 ∷ 13 ∷ 14 ∷ 15 ∷ 16 ∷ 17 ∷ 18 ∷ [])
       ≡ 3 ∷ 0 ∷ 7 ∷ 4294967295 ∷ 10 ∷ 4 ∷ 17 ∷ 18 ∷ []
   pub words : write-call (3 ∷ 7 ∷ []) (7 ∷ 2 ∷ []) 4 ≡ ok (3 ∷ 4294967295 ∷ 7 ∷ 2 ∷ [])
+  -- "Homes listed = homes with a code + homes without": of three homes one has none
+  pub with-a-code : with-code (3 ∷ 0 ∷ 7 ∷ 4294967295 ∷ 10 ∷ 4 ∷ []) ≡ 2
+  pub without-one : without-code (3 ∷ 0 ∷ 7 ∷ 4294967295 ∷ 10 ∷ 4 ∷ []) ≡ 1
   -- "is refused with 21", and nothing is written
   pub refusal : write-call (3 ∷ 3 ∷ []) [] 4 ≡ refused 21 0
   pub unchanged : after-write (write-call (3 ∷ 3 ∷ []) [] 4) (11 ∷ 12 ∷ 13 ∷ 14 ∷ []) ≡ 11 ∷ 12 ∷ 13 ∷ 14 ∷ []

@@ -5,10 +5,11 @@ use Rattle.logic.specs.Term.{size, encode}
 use Rattle.logic.specs.Move.{shift, fill-at, occurs}
 use Rattle.logic.specs.Reading.{read, too-deep}
 use Rattle.logic.specs.Infer.{infer, same-term, conclusion}
-use Rattle.logic.specs.Sentences.{Sentences}
+use Rattle.logic.specs.SignatureList.{constants}
+use Rattle.logic.specs.Sentences.{longer-proof, properties, Sentences}
 
 pub sentences : Sentences
-unfolding infer same-term conclusion read too-deep shift fill-at occurs size encode ℕ-discrete
+unfolding infer same-term conclusion read too-deep shift fill-at occurs size encode ℕ-discrete constants longer-proof properties
 sentences = record {
   prop = refl;
   type = refl;
@@ -52,7 +53,17 @@ sentences = record {
   bind-lowered = refl;
   bind-of-string = refl;
   bind-to-string = refl;
+  bind-to-function = refl;
+  bind-to-sort = refl;
   bind-by-other = refl;
   bind-escape = refl;
   bind-escape-by-other = refl;
+  long-words = refl;
+  long-node = refl;
+  long-node-signed = refl;
+  long-node-said = refl;
+  long-node-constant = refl;
+  constant-before = refl;
+  constant-itself = refl;
+  constant-behind = refl;
 }

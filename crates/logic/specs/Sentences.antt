@@ -1,9 +1,11 @@
 -- Document 01's section on typing with document 02's changes, a sentence at a time: what each rule types and where it
 -- breaks, by literals, with the sample signature. proofs/Sentences computes them, so that they rest on no other proof.
-use Prim.Native.Nat.{ℕ}
+use Prim.Native.Nat.{ℕ, zero, suc}
 use mathlib.Core.Path.{_≡_}
+use mathlib.Core.List.{List, [], _∷_, _++_}
 use Rattle.logic.specs.Result.{ok, refused}
-use Rattle.logic.specs.Term.{Term, var, sign, P, T′, S, N, KindP, KindT, Const, Text, Name, Says, Pi, Lam, App, Ret, Bind, encode}
+use Rattle.logic.specs.Term.{Term, var, sign, P, T′, S, N, KindP, KindT, Const, Text, Name, Says, Pi, Lam, App, Ret, Bind, size, encode}
+use Rattle.logic.specs.SignatureList.{signature}
 use Rattle.logic.specs.Worked.{sample, consent}
 use Rattle.logic.specs.Order.{answer-to}
 
@@ -28,6 +30,31 @@ told-to-all = Pi S (Pi N (Says (var 0) (App (Const 2) (var 1))))
 -- a proof of a proposition in which variable 0, a proof of the consent, stands
 abbrev pub of-consent : Term
 of-consent = Lam (App (Const 3) (var 0)) (var 0)
+
+-- t, a proof of the consent, in 6 words more for each step
+unfoldable pub longer-proof : ℕ → Term → Term
+longer-proof zero t = t
+longer-proof (suc k) t = App (Lam consent (var 0)) (longer-proof k t)
+
+-- k + 1 times that variable i, a proof of the consent, has the property C3
+unfoldable pub properties : (k i : ℕ) → Term
+properties zero i = App (Const 3) (var i)
+properties (suc k) i = Pi (App (Const 3) (var i)) (properties k (suc i))
+
+-- a proposition of 153 words in which the node at word 63 has a type of over 256: a long proof is filled in six times
+abbrev pub long-within : Term
+long-within =
+    Pi consent (Pi (Pi consent (properties 5 0)) (Pi (Pi consent (Pi (properties 5 0) P))
+    (App (App (var 0) (longer-proof 7 (var 2))) (App (var 1) (longer-proof 7 (var 2))))))
+
+-- a constant's type with its length word before it
+abbrev pub with-length : Term → List ℕ
+with-length A = size A ∷ encode A
+
+-- the sample, C0 to C3: 20 words
+abbrev pub listed-sample : List ℕ
+listed-sample =
+    with-length (Pi S P) ++ with-length (Pi S (Pi S P)) ++ with-length (Pi S P) ++ with-length (Pi consent P)
 
 pub record Sentences : Type 0 where
   -- "P : KindP. T : KindT. S : T. N : T. sn : S. an : N."
@@ -84,8 +111,20 @@ pub record Sentences : Type 0 where
   pub bind-lowered : Lam P (Lam (var 0) (Bind (sign 3 consent) (Ret (Name 3) (var 1)))) has-type Pi P (Pi (var 0) (Says (Name 3) (var 1)))
   pub bind-of-string : Breaks (Bind (Text 7) (Ret (Name 3) (var 0)))
   pub bind-to-string : Breaks (Bind (sign 3 consent) (Text 7))
+  pub bind-to-function : Breaks (Bind (sign 3 consent) (Const 3))
+  pub bind-to-sort : Breaks (Bind (sign 3 consent) P)
   pub bind-by-other : Breaks (Bind (sign 3 consent) (Ret (Name 4) (var 0)))
   -- "20 for the escape"; "a Bind whose body another principal says stays 11, even if its
   -- variable escapes too" (document 02, slip 2)
   pub bind-escape : Bind (sign 3 consent) (Ret (Name 3) of-consent) refused-with 20
   pub bind-escape-by-other : Breaks (Bind (sign 3 consent) (Ret (Name 4) of-consent))
+  -- "each node's own type has at most 256 words": of every node, also within what is signed or said, and in a signature
+  pub long-words : size long-within ≡ 153
+  pub long-node : answer-to sample (encode long-within) ≡ refused 12 63
+  pub long-node-signed : answer-to sample (encode (sign 3 long-within)) ≡ refused 12 64
+  pub long-node-said : answer-to sample (encode (Says (Name 3) long-within)) ≡ refused 12 65
+  pub long-node-constant : signature (listed-sample ++ with-length (Pi long-within P)) ≡ refused 4 20
+  -- "a type that passes the check with type KindP under the constants before it": not itself, and not one behind it
+  pub constant-before : signature (listed-sample ++ with-length (Pi (App (Const 2) (Text 7)) P)) ≡ ok (sample ++ (Pi consent P ∷ []))
+  pub constant-itself : signature (listed-sample ++ with-length (Pi (Const 4) P)) ≡ refused 4 20
+  pub constant-behind : signature (listed-sample ++ with-length (Pi (App (Const 5) (Text 7)) P) ++ with-length (Pi S P)) ≡ refused 4 20

@@ -16,7 +16,7 @@ use Rattle.logic.specs.Reading.{Plain}
 use Rattle.logic.specs.SignatureList.{signature}
 use Rattle.logic.specs.Worked.{consent, checked-words}
 use Rattle.logic.specs.Order.{answer-to}
-use Rattle.logic.specs.Sentences.{of-consent}
+use Rattle.logic.specs.Sentences.{of-consent, with-length}
 
 -- Separate Σ Γ t m: the term t, in the scope Γ, breaks the condition with the number m
 pub data Separate (Σ Γ : List Term) : Term → ℕ → Type 0 where
@@ -63,10 +63,6 @@ pub record SeparateRefusals (Σ : List Term) : Type 0 where
       → infer Σ Γ at (Bind e b) ≡ refused 11 at
   pub by-other : {Γ : List Term} {e b a q B : Term} (at : ℕ) → Context Σ Γ → HasMeasured Σ Γ e (Says a q) → HasMeasured Σ (q ∷ Γ) b B →
       ((r : Term) → B ≢ Says (raise 1 a) r) → infer Σ Γ at (Bind e b) ≡ refused 11 at
-
--- a constant's type with its length word before it
-abbrev pub with-length : Term → List ℕ
-with-length A = size A ∷ encode A
 
 -- the variable, a proof of C0, escapes; C1 is a property of such proofs
 abbrev pub escaping : Term

@@ -5,7 +5,7 @@ use mathlib.Core.Path.{_≡_}
 use mathlib.Core.List.{List, [], _∷_, _++_}
 use lib.ListN.{replicate}
 use Rattle.logic.specs.Result.{refused}
-use Rattle.logic.specs.Term.{Term, var, sign, Const, Text, Name, Says, Pi, App, Ret, Bind, size, encode}
+use Rattle.logic.specs.Term.{Term, var, sign, P, S, Const, Text, Name, Says, Pi, App, Ret, Bind, size, encode}
 use Rattle.logic.specs.Worked.{sample, consent, rule, p}
 use Rattle.logic.specs.Order.{within-signs}
 use Rattle.logic.specs.Sentences.{of-consent}
@@ -61,6 +61,16 @@ escape = Bind (sign 3 consent) (Ret (Name 3) of-consent)
 abbrev pub listed-rule : ℕ → Term → List ℕ
 listed-rule a q = a ∷ 1 ∷ 4 ∷ size q ∷ encode q
 
+-- two operations, with the types of C0 to C3
+abbrev pub permit-type : Term
+permit-type = Pi S P
+
+abbrev pub receipt-type : Term
+receipt-type = Pi S (Pi S P)
+
+abbrev pub of-operations : (A B C D : Term) → Lent
+of-operations A B C D = with-lent 12288 (listed (A ∷ B ∷ C ∷ D ∷ [])) 2
+
 pub record CallOrder : Type 0 where
   -- check: 1 to 8, then 9 to 12 and 18 to 20 as met, then 14 or 22; no 23, though its day is before the latest
   pub check-1 : check-call (with-lent 12287 constant-of-none 0) short-register 0 [] ≡ refused 1 0
@@ -68,6 +78,12 @@ pub record CallOrder : Type 0 where
   pub check-3 : check-call (with-lent 12288 constant-of-none 0) broken-register 0 [] ≡ refused 3 0
   pub check-4 : check-call (with-lent 12288 constant-of-none 0) empty-register 0 [] ≡ refused 4 0
   pub check-5 : check-call (with-lent 12288 (listed sample) 0) empty-register 0 [] ≡ refused 5 0
+  -- of two operations each one's permit and receipt
+  pub check-5-two : check-call (of-operations permit-type receipt-type permit-type receipt-type) empty-register 0 [] ≡ refused 6 0
+  pub check-5-permit : check-call (of-operations receipt-type receipt-type permit-type receipt-type) empty-register 0 [] ≡ refused 5 0
+  pub check-5-receipt : check-call (of-operations permit-type permit-type permit-type receipt-type) empty-register 0 [] ≡ refused 5 0
+  pub check-5-last-permit : check-call (of-operations permit-type receipt-type receipt-type receipt-type) empty-register 0 [] ≡ refused 5 0
+  pub check-5-last-receipt : check-call (of-operations permit-type receipt-type permit-type permit-type) empty-register 0 [] ≡ refused 5 0
   pub check-6 : check-call lends empty-register 0 [] ≡ refused 6 0
   pub check-6-long : check-call lends empty-register 0 (replicate 2049 0) ≡ refused 6 0
   pub check-7 : check-call lends empty-register 0 (replicate 2048 0) ≡ refused 7 0

@@ -1,0 +1,90 @@
+-- Lists of calls by literals: the words behind the records that calls leave, what later calls see, which lists have a
+-- refusal and are of one day, and what a verdict does not depend on. The theorems on lists of calls speak by these
+-- definitions, and no contract cites most of them; here they are met by registers and calls that are written out.
+-- proofs/HistoryGuards computes them.
+use Prim.Native.Nat.{ℕ}
+use mathlib.Core.Path.{_≡_}
+use mathlib.Core.Bool.{true, false}
+use mathlib.Core.List.{List, [], _∷_, _++_}
+use lib.ListN.{replicate}
+use Rattle.logic.specs.Result.{ok, refused}
+use Rattle.logic.specs.Term.{sign, P, Name, Says, encode}
+use Rattle.logic.specs.Worked.{sample, consent}
+use Rattle.register.specs.Records.{Statement, Ask, statement-of, ask-of}
+use Rattle.register.specs.Calls.{open-call, after-open, say-call, after-say, request-call, after-request}
+use Rattle.register.specs.Verdict.{Alike, SameSigns, SameDay}
+use Rattle.register.specs.History.{Setting, lent, Call, batch, said, requested, checked, NoRefusal, OneDay, Later, call, check, replies}
+use Rattle.register.specs.Worked.{listed, setting, opened-sample, say-from, say-consent, request-on, request-extract, receipt-proved}
+use Rattle.register.specs.BatchGuards.{permitted, desk-permits}
+
+-- a check of what a3 said, on a day
+abbrev pub check-consent : (day : ℕ) → Later
+check-consent day = check setting 12288 day (encode (sign 3 consent))
+
+-- the sample with two operations, of which the second has no receipt
+abbrev pub second-unreceipted : Setting
+second-unreceipted = record { sig = listed sample; n = 2 }
+
+-- two says of one day: a3 and a4 say App C2 s7
+abbrev pub two-says : List Call
+two-says = say-from 15 3 12 18 ∷ say-from 15 4 12 18 ∷ []
+
+abbrev pub two-says-turned : List Call
+two-says-turned = say-from 15 4 12 18 ∷ say-from 15 3 12 18 ∷ []
+
+-- a register in which the principal a says App C2 s7 for the days 1 to 4, with the latest day 5
+abbrev pub consent-by : (a : ℕ) → List ℕ
+consent-by a = 11 ∷ 1 ∷ 5 ∷ 2 ∷ 6 ∷ a ∷ 1 ∷ 4 ∷ encode consent
+
+-- the desk states the permission of operation 0 for the extract 7, for the days 1 to 9; behind that stand so many words
+-- 8, and 77
+abbrev pub permitting : (free : ℕ) → List ℕ
+permitting free = 11 ∷ 1 ∷ 5 ∷ 1 ∷ 6 ∷ 0 ∷ 1 ∷ 9 ∷ encode permitted ++ replicate free 8 ++ (77 ∷ [])
+
+abbrev pub consent-for : (first last : ℕ) → Statement
+consent-for first last = statement-of 3 first last (encode consent)
+
+abbrev pub desk-asks : Ask
+desk-asks = ask-of 0 7 9 6 (encode desk-permits)
+
+-- what an opening without rules leaves of a register, a say by a3 of App C2 s7 on day 15, and a request of day 6 with
+-- the desk's statement for its proof
+abbrev pub opened-over : List ℕ → List ℕ
+opened-over old = after-open (open-call (lent setting 12288) old []) old
+
+abbrev pub said-over : (first last : ℕ) → List ℕ → List ℕ
+said-over first last old = after-say (say-call (lent setting 12288) old 15 (consent-for first last)) old 15 (consent-for first last)
+
+abbrev pub granted-over : List ℕ → List ℕ
+granted-over old = after-request (request-call (lent setting 12288) old desk-asks) old desk-asks
+
+pub record HistoryGuards : Type 0 where
+  -- "words past the new used count are unchanged", by an opening, a say, a repeated say and a request
+  pub open-behind : opened-over (9 ∷ 9 ∷ 9 ∷ 9 ∷ 77 ∷ []) ≡ 3 ∷ 0 ∷ 0 ∷ 9 ∷ 77 ∷ []
+  pub say-behind : said-over 12 18 (permitting 9) ≡
+      19 ∷ 2 ∷ 15 ∷ 1 ∷ 6 ∷ 0 ∷ 1 ∷ 9 ∷ encode permitted ++ (2 ∷ 6 ∷ 3 ∷ 12 ∷ 18 ∷ encode consent) ++ (8 ∷ 77 ∷ [])
+  pub repeated-behind : said-over 1 4 (consent-by 3 ++ (8 ∷ 77 ∷ [])) ≡ 11 ∷ 1 ∷ 15 ∷ 2 ∷ 6 ∷ 3 ∷ 1 ∷ 4 ∷ encode consent ++ (8 ∷ 77 ∷ [])
+  pub request-behind : granted-over (permitting 19) ≡
+      29 ∷ 3 ∷ 6 ∷ 1 ∷ 6 ∷ 0 ∷ 1 ∷ 9 ∷ encode permitted ++ (3 ∷ 8 ∷ 0 ∷ 7 ∷ 9 ∷ 6 ∷ encode desk-permits) ++
+      (4 ∷ 6 ∷ 0 ∷ encode receipt-proved) ++ (8 ∷ 77 ∷ [])
+  -- "every call getting the register as the one before left it": the check behind the say finds it, and the one before
+  -- it does not
+  pub later-behind : replies (opened-sample 76) (call setting say-consent ∷ check-consent 15 ∷ []) ≡
+      said (ok true) ∷ checked (ok (Says (Name 3) consent)) ∷ []
+  pub later-before : replies (opened-sample 76) (check-consent 15 ∷ call setting say-consent ∷ []) ≡ checked (refused 14 0) ∷ said (ok true) ∷ []
+  -- each on its day, with its signature and n
+  pub later-day : replies (opened-sample 76) (call setting say-consent ∷ check-consent 19 ∷ []) ≡ said (ok true) ∷ checked (refused 22 0) ∷ []
+  pub later-setting : replies (opened-sample 76) (call second-unreceipted say-consent ∷ call setting say-consent ∷ call setting (request-on 14) ∷ []) ≡
+      said (refused 5 0) ∷ said (ok true) ∷ requested (refused 23 0) ∷ []
+  -- "if neither order has a refusal": two orders that have none, and two that have one, the first call's and the last's
+  pub no-refusal : NoRefusal setting (opened-sample 90) two-says
+  pub no-refusal-turned : NoRefusal setting (opened-sample 90) two-says-turned
+  pub first-refused : NoRefusal setting (opened-sample 90) (request-extract ∷ say-consent ∷ []) → ⊥
+  pub last-refused : NoRefusal setting (opened-sample 90) (say-consent ∷ request-on 14 ∷ []) → ⊥
+  -- "within lists of one day": that of the calls, whatever days a statement has
+  pub of-one-day : OneDay 15 (say-from 15 3 12 18 ∷ request-on 15 ∷ batch 12288 15 [] ∷ [])
+  pub of-another-day : OneDay 15 (say-from 16 3 15 15 ∷ []) → ⊥
+  -- "A verdict .. depends only on .. which embedded signatures are held": a term without a Sign gets one verdict
+  -- whoever said what, also of a request
+  pub alike-check : Alike (SameSigns 3 (encode P)) (consent-by 3) (consent-by 4)
+  pub alike-request : Alike (SameDay 6 (encode P)) (consent-by 3) (consent-by 4)
