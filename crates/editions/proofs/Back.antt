@@ -15,10 +15,10 @@ use Rattle.logic.specs.Typing.{has-lam, has-app, has-sign, has-ret, has-bind}
 use Rattle.logic.proofs.Basics.{clash}
 use Rattle.logic.proofs.Results.{bind-is}
 use Rattle.editions.specs.Named.{Label, Named, atom′, var′, sign′, node′, label, counted}
-use Rattle.editions.specs.Convert.{enter, relabel, unname, name, Closed, ScopeOf}
-use Rattle.editions.specs.Binders.{IsBinder, NamedAt, named, named-signed, named-first, named-second}
+use Rattle.editions.specs.Convert.{enter, relabel, convert, unname, name, Closed, ScopeOf}
+use Rattle.editions.specs.Binders.{IsBinder, NamedAt, named, named-signed, named-first, named-second, NamedByCount}
 use Rattle.editions.specs.declared.Edition.the-variants.{Counts, Names}
-use Rattle.editions.proofs.Scopes.{enter-scope, no-names, named-back}
+use Rattle.editions.proofs.Scopes.{entered, enter-scope, no-names, named-back}
 use Rattle.editions.proofs.Means.{Means, means-atom, means-var, means-sign, means-node, convert-means, means-convert}
 use Rattle.editions.proofs.Words.{erased-counted}
 
@@ -33,10 +33,6 @@ entry-below : {X : Type 0} {y : X} (ns : List X) (n : ℕ) → getElem? ns n ≡
 entry-below [] n e = absurd (clash (cc))
 entry-below (x ∷ ns) zero e = omega arith
 entry-below (x ∷ ns) (suc n) e = let h = entry-below ns n e in omega arith
-
-entered : (b : Bool) (l : Label b) (ns : List ℕ) → length (enter Counts b l ns) ≡ under b suc (length ns)
-entered true l ns = refl
-entered false l ns = refl
 
 closed-named : (t : Term) (ns : List ℕ) → Closed (length ns) t → (s : Named) × Means Counts ns (counted t) s
 unfolding Closed counted
@@ -89,8 +85,8 @@ named-count (means-node {ns = ns} {o = o} m n) (named c) = named-here (binds o) 
 named-count (means-node m n) (named-first c) = named-count m c
 named-count (means-node {ns = ns} {o = o} {l = l} m n) (named-second c) = named-count n (rw (← entered (binds o) l ns) at c)
 
-pub named-by-count : (t : Term) (s : Named) {x d j : ℕ} → name t ≡ ok s → NamedAt x d 0 j s → x ≡ d
-named-by-count t s e h = named-count (convert-means Counts (counted t) [] 0 e) h
+pub named-by-count : (u s : Named) → convert Counts [] 0 u ≡ ok s → NamedByCount s
+named-by-count u s e x d j h = named-count (convert-means Counts u [] 0 e) h
 
 -- ---- typed terms
 

@@ -29,12 +29,8 @@ use Rattle.editions.proofs.Means.{convert-means, means-size}
 use Rattle.editions.proofs.Binders.{one-binder}
 use Rattle.editions.proofs.Unbound.{convert-refused}
 use Rattle.editions.proofs.Refuses.{converted-is}
-use Rattle.editions.proofs.Same.{kept, well-formed, same-term}
+use Rattle.editions.proofs.Same.{few, kept, well-formed, same-term}
 use Rattle.editions.proofs.Back.{closed, back, named-by-count, typed-closed}
-
--- a term has far fewer words than there are payloads
-few : {e : Edition} {ws : List ℕ} {s : Named} → WordsOf′ e ws s → size′ s ≤ payloads
-few {s} w = omega (arith, w .not-more, ap length (w .words), encode-size′ s)
 
 document-01 : (ws : List ℕ) (t : Term) → WordsOf′ Counts ws (counted t) ↔ WordsOf most-words most-nesting ws t
 document-01 ws t = (
@@ -110,7 +106,7 @@ laws = record {
   one-binder = λ h g. one-binder h g refl;
   first-unbound = convert-refused;
   kept = λ e ws s t w h. kept e s t (w .plain) (few w) h;
-  named-by-count = named-by-count;
+  named-by-count = λ t. named-by-count (counted t);
   well-formed = well-formed;
   document-01 = document-01;
   same-words = same-words;

@@ -6,8 +6,8 @@ pub mod Scopes
 pub mod Means
 pub mod Binders
 pub mod Unbound
-pub mod Refuses
 pub mod Same
 pub mod Back
+pub mod Refuses
 pub mod Laws
 pub mod Guards

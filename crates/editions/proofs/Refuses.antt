@@ -19,8 +19,9 @@ use Rattle.logic.proofs.Stopped.{not-refused, stopped, failed, stop, fail, one-
 use Rattle.words.specs.Place.{written-at, after-write}
 use Rattle.words.proofs.Lists.{drop-behind}
 use Rattle.editions.specs.Named.{Named, sign′, encode′, label, counted, erased}
-use Rattle.editions.specs.Edition.{WordsOf′, edition-term}
+use Rattle.editions.specs.Edition.{other, WordsOf′, edition-term}
 use Rattle.editions.specs.Convert.{relabel, convert, unname, fitting, from-named, to-named, converted}
+use Rattle.editions.specs.Binders.{NamesGiven}
 use Rattle.editions.specs.Refuses.{ConvertRefused, convert-6, convert-7, convert-8, convert-24, convert-25, Converts, ConvertersDemand}
 use Rattle.editions.specs.declared.Edition.{Edition}
 use Rattle.editions.specs.declared.Edition.the-variants.{Counts, Names}
@@ -29,6 +30,8 @@ use Rattle.editions.proofs.Words.{encode-size′, erased-size, counted-
 use Rattle.editions.proofs.Editions.{edition-term-right, counts-term}
 use Rattle.editions.proofs.Malformed.{tests-refused, refused-6, refused-7, refused-8}
 use Rattle.editions.proofs.Unbound.{variable-within, convert-refused, convert-bound}
+use Rattle.editions.proofs.Same.{few, kept, well-formed, one-result}
+use Rattle.editions.proofs.Back.{named-by-count}
 
 -- ---- both calls read a term, convert it and look whether it fits
 
@@ -75,6 +78,10 @@ converted-is Counts = to-named-is
 
 -- ---- what they answer
 
+names-given : (e : Edition) (s t : Named) → convert e [] 0 s ≡ ok t → NamesGiven e t
+names-given Names s t q = tt
+names-given Counts s t q = named-by-count s t q
+
 module _ (e : Edition) (ws : List ℕ) (room : ℕ) where
   same-length : (s t : Named) → WordsOf′ e ws s → convert e [] 0 s ≡ ok t → length (encode′ t) ≡ length ws
   same-length s t h q = encode-size′ t ∙ means-size (convert-means e s [] 0 q) ∙ sym (encode-size′ s) ∙ ap length (sym (h .words))
@@ -85,14 +92,26 @@ module _ (e : Edition) (ws : List ℕ) (room : ℕ) where
         let h = edition-term-right e ws s .0 q₁ in
         let n = same-length s t h q₃ in
         let k = leb-true (length (encode′ t)) room l in
-        record { s = s; t = t; term = h; bound = convert-bound e s .0 (t, q₃); converts = q₃; words = sym (ok-inj q₅); fits = omega arith }),
-    (λ c. let n = same-length (c .s) (c .t) (c .term) (c .converts) in
-        bind-is _ (edition-term-right e ws (c .s) .1 (c .term)) (bind-is _ (c .converts)
-        (pass _ _ (le-leb (length (encode′ (c .t))) room (omega (arith, c .fits))) (ap ok (sym (c .words)))))),
+        record {
+          s = s;
+          t = t;
+          term = h;
+          bound = convert-bound e s .0 (t, q₃);
+          result = subst (λ xs. WordsOf′ (other e) xs t) (ok-inj q₅) (well-formed e ws s t h q₃);
+          preserved = kept e s t (h .plain) (few h) q₃;
+          names = names-given e s t q₃;
+          fits = omega arith;
+        }),
+    (λ c. let (t, q) = convert-bound e (c .s) .1 (c .bound) in
+        let n = same-length (c .s) t (c .term) q in
+        let o = one-result e (c .s) t (c .t) (c .term .plain) (c .result .plain) (few (c .term)) q (c .preserved) (c .names) in
+        bind-is _ (edition-term-right e ws (c .s) .1 (c .term)) (bind-is _ q
+        (pass _ _ (le-leb (length (encode′ t)) room (omega (arith, c .fits))) (ap ok (ap encode′ o ∙ sym (c .result .words)))))),
   )
 
   in-turn-length : (xs : List ℕ) → converted-in-turn e ws room ≡ ok xs → length xs ≡ length ws
-  in-turn-length xs q = let c = in-turn-right xs .0 q in ap length (c .words) ∙ same-length (c .s) (c .t) (c .term) (c .converts)
+  in-turn-length xs q = bound (edition-term e ws) _ q λ s q₁ q₂. bound (convert e [] 0 s) _ q₂ λ t q₃ q₄.
+      tested (leb (length (encode′ t)) room) _ _ _ q₄ λ l q₅. ap length (sym (ok-inj q₅)) ∙ same-length s t (edition-term-right e ws s .0 q₁) q₃
 
   refused-right : {m p : ℕ} → ConvertRefused e ws room m p → converted-in-turn e ws room ≡ refused m p
   refused-right (convert-6 h) = stop _ (refused-6 e ws h)

@@ -10,6 +10,7 @@ use lib.Dec.{eqb}
 use lib.ListN.{length, getElem?}
 use borrow.Author.Tests.{eqb-true, eqb-false, eq-eqb, ne-eqb}
 use native.Mathlib.Omega.{arith}
+use Rattle.logic.specs.Term.{under}
 use Rattle.logic.proofs.Basics.{clash}
 use Rattle.editions.specs.Named.{Label}
 use Rattle.editions.specs.Edition.{other}
@@ -40,6 +41,10 @@ equal? x y = go (eqb x y) refl
     go false e = inr (eqb-false x y e)
 
 -- ---- the names that a conversion has in scope
+
+pub entered : (b : Bool) (l : Label b) (ns : List ℕ) → length (enter Counts b l ns) ≡ under b suc (length ns)
+entered true l ns = refl
+entered false l ns = refl
 
 pub enter-scope : (e : Edition) (b : Bool) (l : Label b) (ns : List ℕ) → ScopeOf e ns → ScopeOf e (enter e b l ns)
 unfolding upto

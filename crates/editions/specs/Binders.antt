@@ -1,4 +1,5 @@
--- Which binder a variable has, without conversion, and the first variable that has none.
+-- Which binder a variable has, which name a binder, and the first variable that has no binder; what a conversion
+-- preserves. All of it is said without the conversion.
 use Prim.Native.Nat.{ℕ, suc, _+_, _<_}
 use mathlib.Core.Path.{_≡_}
 use mathlib.Core.Bool.{Bool, true, false, cond}
@@ -8,7 +9,7 @@ use lib.Dec.{eqb}
 use Rattle.logic.specs.Tags.{tag-variable}
 use Rattle.logic.specs.Term.{Op, binds, under, tag-of}
 use Rattle.editions.specs.Named.{Label, Named, var′, sign′, node′, encode′, size′}
-use Rattle.editions.specs.Edition.{tag-word, unnamed}
+use Rattle.editions.specs.Edition.{other, tag-word, unnamed}
 use Rattle.editions.specs.declared.Edition.{Edition}
 use Rattle.editions.specs.declared.Edition.the-variants.{Counts, Names}
 
@@ -65,11 +66,29 @@ pub data NamedAt (x d : ℕ) : (k j : ℕ) → Named → Type 0 where
   named-second : {o : Op} {l : Label (binds o)} {k j : ℕ} {a b : Named} → NamedAt x d (under (binds o) suc k) j b →
       NamedAt x d k (suc (size′ a + j)) (node′ o l a b)
 
+-- "a binder's name is the count of binders in whose body it stands, within its Sign if any"
+abbrev pub NamedByCount : Named → Type 0
+NamedByCount s = (x d j : ℕ) → NamedAt x d 0 j s → x ≡ d
+
 -- a word without the payload of a binder or a variable
 abbrev pub blank : ℕ → ℕ
 blank w = cond (eqb (tag-of w) tag-variable) (tag-word w) (unnamed Names w)
 
--- "they differ only in names and each variable's binder stands at the same word"
-pub record OnlyNames (s t : Named) : Type 0 where
+-- s, of the edition e, and t, of the edition f, have the same words but for the payloads of binders and variables, and
+-- each variable's binder stands at the same word
+pub record SameBinders (e f : Edition) (s t : Named) : Type 0 where
   pub words : map blank (encode′ s) ≡ map blank (encode′ t)
-  pub binders : (i j : ℕ) → BinderAt Names i j s ↔ BinderAt Names i j t
+  pub binders : (i j : ℕ) → BinderAt e i j s ↔ BinderAt f i j t
+
+-- "they differ only in names and each variable's binder stands at the same word"
+abbrev pub OnlyNames : Named → Named → Type 0
+OnlyNames = SameBinders Names Names
+
+-- what a conversion from the edition e preserves
+abbrev pub Preserved : Edition → Named → Named → Type 0
+Preserved e = SameBinders e (other e)
+
+-- the names that it gives the binders: where it gives any, they are counts
+abbrev pub NamesGiven : Edition → Named → Type 0
+NamesGiven Names t = Unit {0}
+NamesGiven Counts t = NamedByCount t

@@ -4,11 +4,13 @@ use Prim.Native.Nat.{ℕ, zero, suc}
 use mathlib.Core.Path.{_≡_}
 use mathlib.Core.List.{List, [], _∷_}
 use Rattle.logic.specs.Result.{ok, refused}
-use Rattle.logic.specs.Term.{propA, piO, lamO, word}
+use Rattle.logic.specs.Term.{atom, var, sign, node, propA, piO, lamO, appO, word}
 use Rattle.words.specs.Place.{after-write}
-use Rattle.editions.specs.Named.{Named, atom′, var′, node′}
-use Rattle.editions.specs.Convert.{from-named, to-named}
-use Rattle.editions.specs.Binders.{BinderAt, OnlyNames}
+use Rattle.editions.specs.Named.{Named, atom′, var′, sign′, node′}
+use Rattle.editions.specs.Edition.{edition-term}
+use Rattle.editions.specs.Convert.{from-named, to-named, Closed}
+use Rattle.editions.specs.Refuses.{ConvertRefused}
+use Rattle.editions.specs.Binders.{BinderAt, FirstUnbound, NamedAt, NamedByCount, OnlyNames}
 use Rattle.editions.specs.declared.Edition.the-variants.{Counts, Names}
 
 -- ---- words, by document 01's tags
@@ -54,8 +56,12 @@ lams x y (suc k) = Lam x ∷ S ∷ lams x y k
 -- ---- trees, for the relations
 
 -- Lam x P b
-abbrev lam : ℕ → Named → Named
+abbrev pub lam : ℕ → Named → Named
 lam x b = node′ lamO x (atom′ propA) b
+
+-- Pi 4 Lam 5 P P Lam 6 P Sign3 Lam 7 P Lam 8 P P: the binders stand at the words 0, 1, 4, 7 and 9
+abbrev pub five-binders : Named
+five-binders = node′ piO 4 (lam 5 (atom′ propA)) (lam 6 (sign′ 3 (lam 7 (lam 8 (atom′ propA)))))
 
 -- ---- the examples
 
@@ -93,6 +99,7 @@ pub record NamedGuards : Type 0 where
   pub any-name : from-named (Pi 16777215 ∷ S ∷ Lam 16777215 ∷ P ∷ Bind 16777215 ∷ Var 16777215 ∷ Var 16777215 ∷ []) 7
       ≡ ok (Pi 0 ∷ S ∷ Lam 0 ∷ P ∷ Bind 0 ∷ Var 0 ∷ Var 0 ∷ [])
   pub no-name-on-says : from-named (Pi 1 ∷ S ∷ word 7 16777215 ∷ Var 1 ∷ P ∷ []) 5 ≡ refused 7 2
+  pub no-payload-on-pi : edition-term Counts (Says ∷ P ∷ Pi 1 ∷ S ∷ P ∷ []) ≡ refused 7 2
   pub no-name-on-pi : to-named (Says ∷ P ∷ Pi 1 ∷ S ∷ P ∷ []) 5 ≡ refused 7 2
   -- "Either kind passes 6 to 8 first"
   pub empty : from-named [] 0 ≡ refused 6 0
@@ -112,6 +119,22 @@ pub record NamedGuards : Type 0 where
   pub binder-of-domain : BinderAt Names 3 0 (lam 5 (node′ lamO 5 (var′ 5) (var′ 5)))
   pub binder-counted : BinderAt Counts 4 0 (lam 0 (node′ lamO 0 (var′ 0) (var′ 1)))
   pub no-binder : (j : ℕ) → BinderAt Names 1 j (node′ piO 1 (var′ 1) (var′ 1)) → ⊥
+  -- in Lam 5 P Lam 5 P V5 word 0 is not the binder of word 4: a nearer one carries the name
+  pub hidden : BinderAt Names 4 0 (lam 5 (lam 5 (var′ 5))) → ⊥
+  -- "The first unbound name or variable", of two, by the relation; and 25 is "after it"
+  pub first-of-two : FirstUnbound Names (node′ appO tt (var′ 1) (var′ 2)) 1
+  pub not-short-yet : ConvertRefused Names (Lam 1 ∷ S ∷ Var 2 ∷ []) 0 25 0 → ⊥
+  -- "closed even within each Sign": Lam P Sign3 Lam P V0 is, and Lam P Sign3 V0 is not
+  pub closed-in-sign : Closed 0 (node lamO (atom propA) (sign 3 (node lamO (atom propA) (var 0))))
+  pub open-in-sign : Closed 0 (node lamO (atom propA) (sign 3 (var 0))) → ⊥
+  -- "the count of binders in whose body it stands, within its Sign if any": 1 for the binder of the body, 0 for that of
+  -- the domain and for the outer one in the Sign, 1 for the inner one there
+  pub counted-in-body : NamedAt 6 1 0 4 five-binders
+  pub counted-in-domain : NamedAt 5 0 0 1 five-binders
+  pub counted-in-sign : NamedAt 7 0 0 7 five-binders
+  pub counted-further-in : NamedAt 8 1 0 9 five-binders
+  pub by-count : NamedByCount (lam 0 (lam 1 (var′ 0)))
+  pub not-by-count : NamedByCount (lam 0 (lam 2 (var′ 0))) → ⊥
   -- "exactly when they differ only in names and each variable's binder stands at the same word"
   pub other-names : OnlyNames (lam 3 (lam 4 (var′ 3))) (lam 4 (lam 3 (var′ 4)))
   pub other-binder : OnlyNames (lam 3 (lam 4 (var′ 3))) (lam 3 (lam 4 (var′ 4))) → ⊥

@@ -2,7 +2,7 @@
 use Prim.Native.Nat.{ℕ, _≤_}
 use mathlib.Core.Path.{_≡_}
 use mathlib.Core.Logic.{_↔_}
-use mathlib.Core.List.{List, [], map}
+use mathlib.Core.List.{List, []}
 use lib.ListN.{length}
 use Rattle.logic.specs.Limits.{most-words, most-nesting}
 use Rattle.logic.specs.Refusals.{unbound}
@@ -13,15 +13,9 @@ use Rattle.logic.specs.Check.{WordsOf, Checked, check-term}
 use Rattle.editions.specs.Named.{Named, encode′, counted}
 use Rattle.editions.specs.Edition.{other, WordsOf′}
 use Rattle.editions.specs.Convert.{convert, unname, name, Closed, from-named, to-named}
-use Rattle.editions.specs.Binders.{BinderAt, FirstUnbound, NamedAt, blank, OnlyNames}
+use Rattle.editions.specs.Binders.{BinderAt, FirstUnbound, NamedByCount, OnlyNames, Preserved}
 use Rattle.editions.specs.declared.Edition.{Edition}
 use Rattle.editions.specs.declared.Edition.the-variants.{Counts, Names}
-
--- what a conversion preserves, said without it: all words but for the payloads of binders and variables, and the word
--- of each variable's binder
-pub record Preserved (e : Edition) (s t : Named) : Type 0 where
-  pub words : map blank (encode′ s) ≡ map blank (encode′ t)
-  pub binders : (i j : ℕ) → BinderAt e i j s ↔ BinderAt (other e) i j t
 
 pub record Laws : Type 0 where
   -- a variable has one binder at most, and a term converts unless one has none: "The first unbound name or variable is
@@ -31,7 +25,7 @@ pub record Laws : Type 0 where
   -- conversion keeps all but names and counts, either way
   pub kept : (e : Edition) (ws : List ℕ) (s t : Named) → WordsOf′ e ws s → convert e [] 0 s ≡ ok t → Preserved e s t
   -- "a binder's name is the count of binders in whose body it stands, within its Sign if any"
-  pub named-by-count : (t : Term) (s : Named) {x d j : ℕ} → name t ≡ ok s → NamedAt x d 0 j s → x ≡ d
+  pub named-by-count : (t : Term) (s : Named) → name t ≡ ok s → NamedByCount s
   -- what is written is a term of the other edition within the limits
   pub well-formed : (e : Edition) (ws : List ℕ) (s t : Named) → WordsOf′ e ws s → convert e [] 0 s ≡ ok t → WordsOf′ (other e) (encode′ t) t
   -- words of document 01 are read as its own reader reads them

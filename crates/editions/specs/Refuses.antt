@@ -2,7 +2,7 @@
 -- demand says of the two converters. A constructor is a test in its order: those before it passed, and this one fails.
 use Prim.Native.Nat.{ℕ, _≤_, _<_}
 use mathlib.Core.Path.{_≡_}
-use mathlib.Core.List.{List, []}
+use mathlib.Core.List.{List}
 use lib.ListN.{length, drop}
 use Rattle.logic.specs.Limits.{most-words, most-nesting}
 use Rattle.logic.specs.Refusals.{term-length, malformed, nesting, unbound, output-short}
@@ -11,9 +11,9 @@ use Rattle.logic.specs.Reading.{FirstTooDeep}
 use Rattle.logic.specs.Refused.{BadLength, GoodLength}
 use Rattle.words.specs.Place.{after-write}
 use Rattle.editions.specs.Named.{Named, encode′, erased}
-use Rattle.editions.specs.Edition.{Plain′, Malformed′, WordsOf′}
-use Rattle.editions.specs.Convert.{convert, converted}
-use Rattle.editions.specs.Binders.{VariableAt, BinderAt, FirstUnbound}
+use Rattle.editions.specs.Edition.{other, Plain′, Malformed′, WordsOf′}
+use Rattle.editions.specs.Convert.{converted}
+use Rattle.editions.specs.Binders.{VariableAt, BinderAt, FirstUnbound, Preserved, NamesGiven}
 use Rattle.editions.specs.declared.Edition.{Edition}
 
 -- 8: "place: first word at depth 33" (document 01), of the term with these words
@@ -35,14 +35,16 @@ module _ (e : Edition) (ws : List ℕ) (room : ℕ) where
     convert-24 : {s : Named} {p : ℕ} → WordsOf′ e ws s → FirstUnbound e s p → ConvertRefused unbound p
     convert-25 : {s : Named} → WordsOf′ e ws s → AllBound e s → room < length ws → ConvertRefused output-short 0
 
-  -- xs are the words of what a term with the words ws is converted into
+  -- a term with the words ws is converted into one with the words xs: a term of the other edition with each variable's
+  -- binder at the same word, and with the names that it is given
   pub record Converts (xs : List ℕ) : Type 0 where
     pub s : Named
     pub t : Named
     pub term : WordsOf′ e ws s
     pub bound : AllBound e s
-    pub converts : convert e [] 0 s ≡ ok t
-    pub words : xs ≡ encode′ t
+    pub result : WordsOf′ (other e) xs t
+    pub preserved : Preserved e s t
+    pub names : NamesGiven e t
     pub fits : length ws ≤ room
 
 -- the first demand of the two converters, each from its edition

@@ -13,14 +13,14 @@ use Rattle.logic.proofs.Basics.{clash}
 use Rattle.register.specs.Records.{Ask, ask-of, item-head, item-length-word}
 use Rattle.register.specs.Batch.{most-items, NextItem, no-item, cut-item, whole-item, next-item, item-before, items, item-words}
 use Rattle.register.proofs.Batch.{next-item-right, next-item-ended, items-step}
-use Rattle.item_list.specs.Items.{found-at, ask-at}
+use Rattle.item_list.specs.Items.{item-answer, item-end, ask-at}
 use Rattle.item_list.specs.declared.Item.{Item}
 use Rattle.item_list.specs.declared.Item.the-variants.{NotWhole, Whole}
 
 -- ---- the item in front of some words that begin at a place
 
 module _ (day at : ℕ) where
-  front-short : (xs : List ℕ) → length xs < item-head → NotWhole ≡ found-at at (next-item day xs)
+  front-short : (xs : List ℕ) → length xs < item-head → none ≡ item-end at (next-item day xs)
   front-short [] g = refl
   front-short (i ∷ []) g = refl
   front-short (i ∷ v ∷ []) g = refl
@@ -29,7 +29,7 @@ module _ (day at : ℕ) where
 
   -- it has its head words
   front-long : (xs : List ℕ) → item-head ≤ length xs → (b : Bool) → leb (getD xs item-length-word 0) (length xs - item-head) ≡ b →
-      cond b (Whole (at + item-head + getD xs item-length-word 0)) NotWhole ≡ found-at at (next-item day xs)
+      cond b (some (at + item-head + getD xs item-length-word 0)) none ≡ item-end at (next-item day xs)
   front-long [] h b e = absurd (omega arith)
   front-long (i ∷ []) h b e = absurd (omega arith)
   front-long (i ∷ v ∷ []) h b e = absurd (omega arith)
@@ -37,11 +37,11 @@ module _ (day at : ℕ) where
   front-long (i ∷ v ∷ u ∷ n ∷ xs) h b e =
       let s : length (i ∷ v ∷ u ∷ n ∷ xs) - item-head ≡ length xs = omega arith in
       let f : leb n (length xs) ≡ b = ap (leb n) (sym s) ∙ e in
-      told b f ∙ ap (λ (b : Bool). found-at at (cond b (whole-item (ask-of i v u day (take n xs)) (drop n xs)) cut-item)) (sym f)
+      told b f ∙ ap (λ (b : Bool). item-end at (cond b (whole-item (ask-of i v u day (take n xs)) (drop n xs)) cut-item)) (sym f)
     where
       told : (b : Bool) → leb n (length xs) ≡ b →
-          cond b (Whole (at + item-head + n)) NotWhole ≡ found-at at (cond b (whole-item (ask-of i v u day (take n xs)) (drop n xs)) cut-item)
-      told true f = ap (λ (m : ℕ). Whole (at + item-head + m)) (sym (length-take-le n xs (leb-true n (length xs) f)))
+          cond b (some (at + item-head + n)) none ≡ item-end at (cond b (whole-item (ask-of i v u day (take n xs)) (drop n xs)) cut-item)
+      told true f = ap (λ (m : ℕ). some (at + item-head + m)) (sym (length-take-le n xs (leb-true n (length xs) f)))
       told false f = refl
 
 module _ (day : ℕ) (ws : List ℕ) (at : ℕ) (within : at ≤ length ws) where
@@ -52,21 +52,21 @@ module _ (day : ℕ) (ws : List ℕ) (at : ℕ) (within : at ≤ length ws) wher
   length-word : getD (drop at ws) item-length-word 0 ≡ getD ws (at + item-length-word) 0
   length-word = getD-drop at ws item-length-word 0
 
-  pub head-cut-at : length ws - at < item-head → NotWhole ≡ found-at at (next-item day (drop at ws))
+  pub head-cut-at : length ws - at < item-head → none ≡ item-end at (next-item day (drop at ws))
   head-cut-at h = front-short day at (drop at ws) (omega (arith, h, left))
 
   module _ (h : item-head ≤ length ws - at) where
     abbrev long : item-head ≤ length (drop at ws)
     long = omega (arith, h, left)
 
-    pub proof-cut-at : length ws - at - item-head < getD ws (at + item-length-word) 0 → NotWhole ≡ found-at at (next-item day (drop at ws))
+    pub proof-cut-at : length ws - at - item-head < getD ws (at + item-length-word) 0 → none ≡ item-end at (next-item day (drop at ws))
     proof-cut-at g = front-long day at (drop at ws) long false
         (lt-leb (getD (drop at ws) item-length-word 0) (length (drop at ws) - item-head) (omega (arith, g, left, length-word)))
 
     pub item-whole-at : getD ws (at + item-length-word) 0 ≤ length ws - at - item-head →
-        Whole (at + item-head + getD ws (at + item-length-word) 0) ≡ found-at at (next-item day (drop at ws))
+        some (at + item-head + getD ws (at + item-length-word) 0) ≡ item-end at (next-item day (drop at ws))
     item-whole-at g =
-        ap (λ (m : ℕ). Whole (at + item-head + m)) (sym length-word)
+        ap (λ (m : ℕ). some (at + item-head + m)) (sym length-word)
         ∙ front-long day at (drop at ws) long true
         (le-leb (getD (drop at ws) item-length-word 0) (length (drop at ws) - item-head) (omega (arith, g, left, length-word)))
 
@@ -79,18 +79,18 @@ pub record WholeAt (day : ℕ) (ws : List ℕ) (at end : ℕ) : Type 0 where
   pub words : drop at ws ≡ item-words (ask-at day ws at end) ++ drop end ws
   pub is : items day (drop at ws) ≡ some (ask-at day ws at end) ∷ items day (drop end ws)
 
-module _ (day : ℕ) (ws : List ℕ) (at : ℕ) (r : Item) (e : r ≡ found-at at (next-item day (drop at ws))) where
+module _ (day : ℕ) (ws : List ℕ) (at : ℕ) (r : Item) (e : item-answer r ≡ item-end at (next-item day (drop at ws))) where
   -- none, though words are left: it is cut short
   pub cut-there : at < length ws → r ≡ NotWhole → items day (drop at ws) ≡ none ∷ []
-  cut-there h q = items-step day (drop at ws) ∙ go (next-item day (drop at ws)) refl (sym q ∙ e)
+  cut-there h q = items-step day (drop at ws) ∙ go (next-item day (drop at ws)) refl (sym (ap item-answer q) ∙ e)
     where
-      go : (x : NextItem) → next-item day (drop at ws) ≡ x → NotWhole ≡ found-at at x → item-before (items day) x ≡ none ∷ []
+      go : (x : NextItem) → next-item day (drop at ws) ≡ x → none ≡ item-end at x → item-before (items day) x ≡ none ∷ []
       go no-item g f = absurd (omega (arith, h, length-drop at ws, ap length (next-item-ended day (drop at ws) g)))
       go cut-item g f = refl
       go (whole-item k rest) g f = absurd (clash (cc))
 
   pub whole-there : (end : ℕ) → r ≡ Whole end → WholeAt day ws at end
-  whole-there end q = go (next-item day (drop at ws)) refl (sym q ∙ e)
+  whole-there end q = go (next-item day (drop at ws)) refl (sym (ap item-answer q) ∙ e)
     where
       found : (k : Ask) (rest : List ℕ) → next-item day (drop at ws) ≡ whole-item k rest → end ≡ at + item-head + length (k .proof) → WholeAt day ws at end
       found k rest f n =
@@ -116,7 +116,7 @@ module _ (day : ℕ) (ws : List ℕ) (at : ℕ) (r : Item) (e : r ≡ found-at a
                 ∙ ap₂ (λ (x : Ask) (xs : List ℕ). some x ∷ items day xs) (sym o) t;
           }
 
-      go : (x : NextItem) → next-item day (drop at ws) ≡ x → Whole end ≡ found-at at x → WholeAt day ws at end
+      go : (x : NextItem) → next-item day (drop at ws) ≡ x → some end ≡ item-end at x → WholeAt day ws at end
       go no-item f g = absurd (clash (cc))
       go cut-item f g = absurd (clash (cc))
       go (whole-item k rest) f g = found k rest f (cc)
@@ -154,7 +154,7 @@ too-many {ws} {at} h l n day =
 
 -- the last is cut short
 pub last-counted : {ws : List ℕ} {at count : ℕ} → Counted ws at count → at < length ws → count < most-items → (r : Item) →
-    ((day : ℕ) → r ≡ found-at at (next-item day (drop at ws))) → r ≡ NotWhole → (day : ℕ) → true ≡ leb (length (items day ws)) most-items
+    ((day : ℕ) → item-answer r ≡ item-end at (next-item day (drop at ws))) → r ≡ NotWhole → (day : ℕ) → true ≡ leb (length (items day ws)) most-items
 last-counted {ws} {at} {count} h g l r e q day =
     sym (le-leb (length (items day ws)) most-items (omega (arith, h .sum day, l, ap length (cut-there day ws at r (e day) g q))))
 

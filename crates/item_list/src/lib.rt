@@ -6,7 +6,7 @@ ghost use Prim.Native.Nat.{ℕ, _≤_};
 ghost use lib.Dec.{leb};
 ghost use lib.ListN.{length, drop};
 ghost use Rattle.register.specs.Batch.{most-items, items as items-of, next-item};
-ghost use Rattle.item_list.specs.Items.{found-at};
+ghost use Rattle.item_list.specs.Items.{item-answer, item-end};
 
 // "up to 16 requests".
 pub const MOST_ITEMS: usize = 16;
@@ -20,7 +20,7 @@ pub enum Item {
 // The item at a place. A length word past the list's end cuts its item short, whatever it says.
 pub fn item_at(items: &[u32], at: usize) -> Item
     requires { ⌜ at ≤ length (now items) ⌝ }
-    ensures { λ r. ⌜ ((day : ℕ) → r ≡ found-at at (next-item day (drop at (now (items .entry))))) ⌝ }
+    ensures { λ r. ⌜ ((day : ℕ) → item-answer r ≡ item-end at (next-item day (drop at (now (items .entry))))) ⌝ }
 {
     let left = items.len() - at;
     if left < ITEM_HEAD {

@@ -3,13 +3,13 @@ use mathlib.Core.Path.{refl}
 use native.Mathlib.Decide.{ℕ-discrete}
 use Rattle.logic.specs.Term.{size, encode}
 use Rattle.logic.specs.Move.{shift, fill-at, occurs}
-use Rattle.logic.specs.Reading.{read, too-deep}
+use Rattle.logic.specs.Reading.{read, too-deep, first-miss}
 use Rattle.logic.specs.Infer.{infer, same-term, conclusion}
 use Rattle.logic.specs.SignatureList.{constants}
 use Rattle.logic.specs.Sentences.{longer-proof, properties, Sentences}
 
 pub sentences : Sentences
-unfolding infer same-term conclusion read too-deep shift fill-at occurs size encode ℕ-discrete constants longer-proof properties
+unfolding infer same-term conclusion read too-deep first-miss shift fill-at occurs size encode ℕ-discrete constants longer-proof properties
 sentences = record {
   prop = refl;
   type = refl;
@@ -46,6 +46,7 @@ sentences = record {
   app-to-prop = refl;
   signed = refl;
   sign-string = refl;
+  sign-open = refl;
   ret = refl;
   ret-by-string = refl;
   ret-string = refl;
@@ -66,4 +67,9 @@ sentences = record {
   constant-before = refl;
   constant-itself = refl;
   constant-behind = refl;
+  missed-in-domain = refl;
+  missed-in-proposition = refl;
+  missed-in-principal = refl;
+  missed-first = refl;
+  none-missed = refl;
 }

@@ -1,10 +1,15 @@
 -- Document 01's section on typing with document 02's changes, a sentence at a time: what each rule types and where it
--- breaks, by literals, with the sample signature. proofs/Sentences computes them, so that they rest on no other proof.
+-- breaks, by literals, with the sample signature; and which Signs of a term count. proofs/Sentences computes them, so
+-- that they rest on no other proof.
 use Prim.Native.Nat.{ℕ, zero, suc}
 use mathlib.Core.Path.{_≡_}
+use mathlib.Core.Bool.{cond}
 use mathlib.Core.List.{List, [], _∷_, _++_}
+use mathlib.Core.Option.{Option, some, none}
+use lib.Dec.{eqb}
 use Rattle.logic.specs.Result.{ok, refused}
 use Rattle.logic.specs.Term.{Term, var, sign, P, T′, S, N, KindP, KindT, Const, Text, Name, Says, Pi, Lam, App, Ret, Bind, size, encode}
+use Rattle.logic.specs.Reading.{Miss, first-miss}
 use Rattle.logic.specs.SignatureList.{signature}
 use Rattle.logic.specs.Worked.{sample, consent}
 use Rattle.logic.specs.Order.{answer-to}
@@ -46,6 +51,13 @@ abbrev pub long-within : Term
 long-within =
     Pi consent (Pi (Pi consent (properties 5 0)) (Pi (Pi consent (Pi (properties 5 0) P))
     (App (App (var 0) (longer-proof 7 (var 2))) (App (var 1) (longer-proof 7 (var 2))))))
+
+-- a search in which only Signs of principal 3 are refused, with 14
+abbrev pub first-of-three : Term → Option Miss
+first-of-three t = first-miss (λ n q. cond (eqb n 3) (some 14) none) 0 t
+
+abbrev pub missed-at : ℕ → Option Miss
+missed-at place = some (record { number = 14; place = place })
 
 -- a constant's type with its length word before it
 abbrev pub with-length : Term → List ℕ
@@ -101,6 +113,7 @@ pub record Sentences : Type 0 where
   -- "Signn Q : Says an Q if Q : P with no variables in scope."
   pub signed : sign 3 consent has-type Says (Name 3) consent
   pub sign-string : Breaks (sign 3 (Text 7))
+  pub sign-open : answer-to sample (encode (Lam S (sign 3 (App (Const 2) (var 0))))) ≡ refused 9 5
   -- "Ret a e : Says a Q if a : N, e : Q and Q : P."
   pub ret : Lam consent (Ret (Name 3) (var 0)) has-type Pi consent (Says (Name 3) consent)
   pub ret-by-string : Breaks (Ret (Text 7) (sign 3 consent))
@@ -128,3 +141,9 @@ pub record Sentences : Type 0 where
   pub constant-before : signature (listed-sample ++ with-length (Pi (App (Const 2) (Text 7)) P)) ≡ ok (sample ++ (Pi consent P ∷ []))
   pub constant-itself : signature (listed-sample ++ with-length (Pi (Const 4) P)) ≡ refused 4 20
   pub constant-behind : signature (listed-sample ++ with-length (Pi (App (Const 5) (Text 7)) P) ++ with-length (Pi S P)) ≡ refused 4 20
+  -- of the Signs, "one nested in a proposition or a domain counts too", and 14's place is the "first such Sign"
+  pub missed-in-domain : first-of-three (Pi (App (var 0) (sign 3 consent)) P) ≡ missed-at 3
+  pub missed-in-proposition : first-of-three (sign 4 (App (var 0) (sign 3 consent))) ≡ missed-at 3
+  pub missed-in-principal : first-of-three (Says (App (var 0) (sign 3 consent)) P) ≡ missed-at 3
+  pub missed-first : first-of-three (App (sign 4 consent) (App (sign 3 consent) (sign 3 P))) ≡ missed-at 6
+  pub none-missed : first-of-three (App (sign 4 consent) (sign 5 consent)) ≡ none

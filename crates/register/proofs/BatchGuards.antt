@@ -9,13 +9,14 @@ use Rattle.logic.specs.SignatureList.{constants, operations}
 use Rattle.register.specs.Records.{records, words-of, statements-from, same-words, some-of}
 use Rattle.register.specs.Calls.{opening}
 use Rattle.register.specs.Batch.{item-list, asks, in-turn, after-requests, all-entries, granted-words}
+use Rattle.register.specs.BatchTests.{items-own}
 use Rattle.register.specs.History.{run, answers, read-off, added-words, grants, days, singles, single-answers}
 use Rattle.register.specs.Worked.{listed}
 use Rattle.register.specs.BatchGuards.{times, BatchGuards}
 
 pub batch-guards : BatchGuards
 unfolding infer same-term conclusion read too-deep first-miss shift fill-at occurs size encode ℕ-discrete constants operations records
-    words-of statements-from same-words some-of opening item-list asks in-turn after-requests all-entries granted-words run answers read-off
+    words-of statements-from same-words some-of opening item-list asks in-turn after-requests all-entries granted-words items-own run answers read-off
     added-words grants days singles single-answers listed times
 batch-guards = record {
   one = refl;
@@ -48,6 +49,9 @@ batch-guards = record {
   other-order = refl;
   other-receipt = refl;
   as-requests = refl;
+  once = refl;
+  once-room = refl;
+  once-other-receipt = refl;
   none-1 = refl;
   none-2 = refl;
   none-3 = refl;

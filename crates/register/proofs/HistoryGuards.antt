@@ -1,23 +1,29 @@
 -- Lists of calls by literals, by computation.
-use Prim.Native.Nat.{ℕ}
+use Prim.Native.Nat.{ℕ, _<_}
 use mathlib.Core.Path.{_≡_, refl, sym, subst}
-use mathlib.Core.List.{[], _∷_}
+use mathlib.Core.List.{[], _∷_, List·Memᴰ·head}
+use mathlib.Core.Option.{some}
 use native.Mathlib.Decide.{ℕ-discrete}
 use native.Mathlib.Omega.{arith}
-use Rattle.logic.specs.Term.{Term, P, size, encode}
+use Rattle.logic.specs.Term.{Term, sign, P, Const, Text, Name, Says, App, size, encode}
 use Rattle.logic.specs.Result.{ok}
 use Rattle.logic.specs.Move.{shift, fill-at, occurs}
-use Rattle.logic.specs.Reading.{read, read-whole, too-deep, first-miss, Embedded}
+use Rattle.logic.specs.Reading.{read, read-whole, too-deep, first-miss, SubtermAt, root, in-sign, in-first, in-second, Embedded}
 use Rattle.logic.specs.Infer.{infer, same-term, conclusion}
-use Rattle.logic.specs.Worked.{consent}
+use Rattle.logic.specs.Worked.{sample, consent}
 use Rattle.logic.specs.SignatureList.{constants, operations}
 use Rattle.logic.proofs.Results.{ok-inj}
-use Rattle.register.specs.Records.{Content, records, words-of, statements-from, same-words, some-of}
-use Rattle.register.specs.Calls.{opening}
+use Rattle.logic.proofs.Check.{check-term-right}
+use Rattle.logic.proofs.SignatureList.{signature-right}
+use Rattle.logic.proofs.Signatures.{sample-signature}
+use Rattle.register.specs.Records.{Content, records, words-of, statements-from, same-words, some-of, say-shape, Held}
+use Rattle.register.specs.Calls.{outline-of, opening}
+use Rattle.register.specs.Lapse.{HeldBefore}
 use Rattle.register.specs.Verdict.{both-whole, SameSigns}
-use Rattle.register.specs.History.{request-refused, NoRefusal, OneDay, run, replies}
-use Rattle.register.specs.Worked.{listed}
-use Rattle.register.specs.HistoryGuards.{HistoryGuards}
+use Rattle.register.specs.History.{lent, request-refused, NoRefusal, OneDay, run, replies}
+use Rattle.register.specs.Worked.{listed, setting}
+use Rattle.register.specs.HistoryGuards.{other-consent, both-consents, consents, consents-content, HistoryGuards}
+use Rattle.register.proofs.Shared.{made-ready}
 
 -- no Sign stands in the word P
 no-sign : (n : ℕ) (q : Term) → Embedded n q P → ⊥
@@ -31,6 +37,43 @@ same-without day c c′ t r n q e = absurd (no-sign n q (subst (λ t. Embedded n
 -- what such a register says
 abbrev said-content : ℕ → Content
 said-content a = record { latest = 5; records = record { kind = 2; body = a ∷ 1 ∷ 4 ∷ encode consent } ∷ [] }
+
+-- ---- the first of the two Signs is held on day 6
+
+-- no Sign stands in App C2 sn
+no-sign-within : {m n i d : ℕ} {r : Term} → SubtermAt (sign m r) i d (App (Const 2) (Text n)) → ⊥
+no-sign-within (in-first s) = elim s [ ]
+no-sign-within (in-second s) = elim s [ ]
+
+one-sign : {m n i d : ℕ} {r : Term} → SubtermAt (sign m r) i d (sign 3 (App (Const 2) (Text n))) → (m ≡ 3) × (r ≡ App (Const 2) (Text n))
+one-sign root = (refl, refl)
+one-sign (in-sign s) = absurd (no-sign-within s)
+
+first-held : (m : ℕ) (r : Term) (i d : ℕ) → SubtermAt (sign m r) i d both-consents → i < 5 → Held (some 6) (consents-content .records) m (encode r)
+unfolding size encode statements-from
+first-held m r i d (in-first s) h =
+    let (a, b) = one-sign s in
+    let held : Held (some 6) (consents-content .records) 3 (encode consent) = record {
+      which = record { principal = 3; words = encode consent; first = 1; last = some 9 };
+      stated = record { among = List·Memᴰ·head refl; by = refl; says = refl };
+      covers = (omega arith, omega arith);
+    } in
+    rw (a, b) held
+first-held m r i d (in-second s) h = absurd (omega arith)
+
+held-before : HeldBefore (lent setting 12288) consents 6 (encode both-consents) 3 other-consent 5 consents-content
+unfolding infer same-term conclusion read too-deep shift fill-at occurs size encode ℕ-discrete constants operations words-of listed
+held-before = record {
+  unbroken = record { shape = (say-shape {n = 6} (omega arith), (say-shape {n = 6} (omega arith), tt)); tail = []; words = refl };
+  Σ = sample;
+  ready = made-ready _ (outline-of consents) (omega arith) (omega arith, omega arith) (signature-right _ sample .0 refl) refl;
+  t = both-consents;
+  A = Says (Name 3) other-consent;
+  passes = check-term-right sample sample-signature (encode both-consents) both-consents (Says (Name 3) other-consent) .0 refl;
+  level = 2;
+  embedded = in-second root;
+  before = first-held;
+}
 
 pub history-guards : HistoryGuards
 unfolding infer same-term conclusion read too-deep first-miss shift fill-at occurs size encode ℕ-discrete constants operations records
@@ -52,4 +95,7 @@ history-guards = record {
   of-another-day = λ h. let e : _≡_ {A = ℕ} 16 15 = h .0 in omega arith;
   alike-check = record { lengths = refl; words-used = refl; contents = both-whole (same-without 3 (said-content 3) (said-content 4)) };
   alike-request = record { lengths = refl; words-used = refl; contents = both-whole (same-without 6 (said-content 3) (said-content 4), refl) };
+  alike-say = record { lengths = refl; words-used = refl; contents = both-whole ((same-without 6 (said-content 3) (said-content 4), refl), refl) };
+  held-before = held-before;
+  second-lapsed = refl;
 }

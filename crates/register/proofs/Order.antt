@@ -35,6 +35,7 @@ call-order = record {
   check-19 = refl;
   check-20 = refl;
   check-14 = refl;
+  check-14-domain = refl;
   check-22 = refl;
   request-1 = refl;
   request-2 = refl;

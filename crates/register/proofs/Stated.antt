@@ -74,4 +74,5 @@ stands before day prior (r ∷ rs) c s {d} m =
     (List·Memᴰ·append-cases (stated day r) m)
 
 pub stated-right : StatedRight
-stated-right = record { right = λ u d. (stands no-kind 0 [] _ (λ e. absurd (omega arith)) (u .shape), reads) }
+unfolding statements-from
+stated-right = record { listed = refl; right = λ u d. (stands no-kind 0 [] _ (λ e. absurd (omega arith)) (u .shape), reads) }

@@ -11,6 +11,7 @@ use Rattle.logic.specs.Worked.{sample, consent, p}
 use Rattle.register.specs.Records.{Record, Content, ask-of, used, latest}
 use Rattle.register.specs.Calls.{Lent}
 use Rattle.register.specs.Batch.{Batched, all-granted, refused-at, batch-call, batch-leaves}
+use Rattle.register.specs.BatchTests.{batch-once}
 use Rattle.register.specs.History.{Call, request, batch, said, requested, batched, run, answers, read-off, added-words, grants, days, singles}
 use Rattle.register.specs.History.{single-answers}
 use Rattle.register.specs.Worked.{listed, setting, opened-sample, say-consent, request-extract, receipt-proved, receipt-sign}
@@ -183,6 +184,10 @@ pub record BatchGuards : Type 0 where
   pub other-receipt : answer-to-batch 43 (plain-item 8 ++ using-item) ≡ refused-at 1 14 1
   -- "and then leaves the same register"
   pub as-requests : run setting (ruled 43) (first-request ∷ second-request ∷ []) ≡ with-both
+  -- the same where the items are tested without writing: the receipt of the first is held, and its words are counted
+  pub once : batch-once lends (ruled 43) 15 both-items ≡ all-granted
+  pub once-room : batch-once lends (ruled 42) 15 both-items ≡ refused-at 1 16 0
+  pub once-other-receipt : batch-once lends (ruled 43) 15 (plain-item 8 ++ using-item) ≡ refused-at 1 14 1
   -- "an empty batch makes tests 1 to 4, 5 for n and the permit and receipt types, and 23, at index and place as a first
   -- request would": from line to line one fault is mended
   pub none-1 : batch-call (with-lent 12287 second-bad 0) short-register 4 [] ≡ refused-at 0 1 0

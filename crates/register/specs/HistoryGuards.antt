@@ -8,11 +8,12 @@ use mathlib.Core.Bool.{true, false}
 use mathlib.Core.List.{List, [], _∷_, _++_}
 use lib.ListN.{replicate}
 use Rattle.logic.specs.Result.{ok, refused}
-use Rattle.logic.specs.Term.{sign, P, Name, Says, encode}
+use Rattle.logic.specs.Term.{Term, sign, P, Const, Text, Name, Says, App, Bind, encode}
 use Rattle.logic.specs.Worked.{sample, consent}
-use Rattle.register.specs.Records.{Statement, Ask, statement-of, ask-of}
-use Rattle.register.specs.Calls.{open-call, after-open, say-call, after-say, request-call, after-request}
-use Rattle.register.specs.Verdict.{Alike, SameSigns, SameDay}
+use Rattle.register.specs.Records.{Statement, Ask, Content, statement-of, ask-of}
+use Rattle.register.specs.Calls.{check-call, open-call, after-open, say-call, after-say, request-call, after-request}
+use Rattle.register.specs.Verdict.{Alike, SameSigns, SameDay, SameStatement}
+use Rattle.register.specs.Lapse.{HeldBefore}
 use Rattle.register.specs.History.{Setting, lent, Call, batch, said, requested, checked, NoRefusal, OneDay, Later, call, check, replies}
 use Rattle.register.specs.Worked.{listed, setting, opened-sample, say-from, say-consent, request-on, request-extract, receipt-proved}
 use Rattle.register.specs.BatchGuards.{permitted, desk-permits}
@@ -58,6 +59,23 @@ said-over first last old = after-say (say-call (lent setting 12288) old 15 (cons
 abbrev pub granted-over : List ℕ → List ℕ
 granted-over old = after-request (request-call (lent setting 12288) old desk-asks) old desk-asks
 
+-- a3 says App C2 s7 for the days 1 to 9 and App C2 s8 for the days 1 to 4; a proof with both as Signs, at the words 1
+-- and 5
+abbrev pub other-consent : Term
+other-consent = App (Const 2) (Text 8)
+
+abbrev pub both-consents : Term
+both-consents = Bind (sign 3 consent) (sign 3 other-consent)
+
+abbrev pub consents : List ℕ
+consents = 19 ∷ 2 ∷ 5 ∷ 2 ∷ 6 ∷ 3 ∷ 1 ∷ 9 ∷ encode consent ++ (2 ∷ 6 ∷ 3 ∷ 1 ∷ 4 ∷ encode other-consent)
+
+abbrev pub consents-content : Content
+consents-content = record {
+  latest = 5;
+  records = record { kind = 2; body = 3 ∷ 1 ∷ 9 ∷ encode consent } ∷ record { kind = 2; body = 3 ∷ 1 ∷ 4 ∷ encode other-consent } ∷ [];
+}
+
 pub record HistoryGuards : Type 0 where
   -- "words past the new used count are unchanged", by an opening, a say, a repeated say and a request
   pub open-behind : opened-over (9 ∷ 9 ∷ 9 ∷ 9 ∷ 77 ∷ []) ≡ 3 ∷ 0 ∷ 0 ∷ 9 ∷ 77 ∷ []
@@ -85,6 +103,10 @@ pub record HistoryGuards : Type 0 where
   pub of-one-day : OneDay 15 (say-from 15 3 12 18 ∷ request-on 15 ∷ batch 12288 15 [] ∷ [])
   pub of-another-day : OneDay 15 (say-from 16 3 15 15 ∷ []) → ⊥
   -- "A verdict .. depends only on .. which embedded signatures are held": a term without a Sign gets one verdict
-  -- whoever said what, also of a request
+  -- whoever said what, also of a request, and of a say whose statement is in neither
   pub alike-check : Alike (SameSigns 3 (encode P)) (consent-by 3) (consent-by 4)
   pub alike-request : Alike (SameDay 6 (encode P)) (consent-by 3) (consent-by 4)
+  pub alike-say : Alike (SameStatement 6 (statement-of 5 1 4 (encode P))) (consent-by 3) (consent-by 4)
+  -- "the first Sign with either decides": on day 6 the first is held, and the second is not
+  pub held-before : HeldBefore (lent setting 12288) consents 6 (encode both-consents) 3 other-consent 5 consents-content
+  pub second-lapsed : check-call (lent setting 12288) consents 6 (encode both-consents) ≡ refused 22 5

@@ -57,6 +57,10 @@ bad-argument = App (Const 2) (sign 3 consent)
 abbrev pub escape : Term
 escape = Bind (sign 3 consent) (Ret (Name 3) of-consent)
 
+-- for each property of proofs that a3 says App C2 s7, what it says of Sign3 App C2 s7 implies App C2 s7
+abbrev pub sign-in-domain : Term
+sign-in-domain = Pi (Pi (Says (Name 3) consent) P) (Pi (App (var 0) (sign 3 consent)) consent)
+
 -- a rule as words of a rule list, for the days 1 to 4
 abbrev pub listed-rule : ℕ → Term → List ℕ
 listed-rule a q = a ∷ 1 ∷ 4 ∷ size q ∷ encode q
@@ -93,6 +97,8 @@ pub record CallOrder : Type 0 where
   pub check-19 : check-call lends empty-register 0 (encode bad-argument) ≡ refused 19 0
   pub check-20 : check-call lends empty-register 0 (encode escape) ≡ refused 20 0
   pub check-14 : check-call lends empty-register 0 (encode (sign 3 consent)) ≡ refused 14 0
+  -- "one nested in a proposition or a domain counts too": at word 11, the argument of a property in a domain
+  pub check-14-domain : check-call lends empty-register 0 (encode sign-in-domain) ≡ refused 14 11
   pub check-22 : check-call lends consent-register 0 (encode (sign 3 consent)) ≡ refused 22 0
   -- request: the same, i, v and u, then 23, before the proof, and 13, 14 or 22, 16. Of the two Signs of p that of the
   -- rule stands first, and decides

@@ -3,7 +3,7 @@
 use Prim.Native.Nat.{ℕ}
 use mathlib.Core.Path.{_≡_}
 use mathlib.Core.Logic.{_↔_}
-use mathlib.Core.List.{List, _∷_, _++_, List·Memᴰ}
+use mathlib.Core.List.{List, [], _∷_, _++_, List·Memᴰ}
 use mathlib.Core.Option.{some, none}
 use Rattle.register.specs.Records.{Record, Content, Dated, Unbroken, statements}
 
@@ -18,6 +18,19 @@ pub data StatedIn (rs : List Record) : Dated → Type 0 where
       rs ≡ before ++ (record { kind = 3; body = i ∷ v ∷ u ∷ day ∷ p } ∷ record { kind = 4; body = a ∷ q } ∷ after) →
       StatedIn rs (record { principal = a; words = q; first = day; last = none })
 
--- the statements of a register that is not broken are exactly these
+-- a rule, two grants of other days with their receipts, the first by another than the desk, and a say between them
+abbrev pub six-records : List Record
+six-records =
+    record { kind = 1; body = 0 ∷ 10 ∷ 20 ∷ 70 ∷ 71 ∷ [] } ∷ record { kind = 3; body = 0 ∷ 7 ∷ 9 ∷ 15 ∷ 72 ∷ [] } ∷
+    record { kind = 4; body = 5 ∷ 73 ∷ [] } ∷ record { kind = 2; body = 3 ∷ 12 ∷ 18 ∷ 74 ∷ [] } ∷
+    record { kind = 3; body = 0 ∷ 7 ∷ 9 ∷ 16 ∷ 75 ∷ [] } ∷ record { kind = 4; body = 0 ∷ 76 ∷ 77 ∷ [] } ∷ []
+
 pub record StatedRight : Type 0 where
+  -- in the order of the records
+  pub listed : statements six-records ≡
+      record { principal = 0; words = 70 ∷ 71 ∷ []; first = 10; last = some 20 } ∷
+      record { principal = 5; words = 73 ∷ []; first = 15; last = none } ∷
+      record { principal = 3; words = 74 ∷ []; first = 12; last = some 18 } ∷
+      record { principal = 0; words = 76 ∷ 77 ∷ []; first = 16; last = none } ∷ []
+  -- the statements of a register that is not broken are exactly these
   pub right : {reg : List ℕ} {c : Content} → Unbroken reg c → (d : Dated) → List·Memᴰ d (statements (c .records)) ↔ StatedIn (c .records) d
