@@ -16,39 +16,6 @@
 // the level in force: requests 1 to LEVEL of document 02 (request 4 changed no answer, so it has no level of its own)
 enum { LEVEL = 7, MOST = 1 << 21, GUARD = 16, PATTERN = 0x5a5a5a5a };
 
-// the header's numbers, which nothing else compares with those of the documents
-#define IS(name, number) _Static_assert(AURA0_##name == (number), #name)
-IS(WORKSPACE_SHORT, 1);
-IS(REGISTER_LENGTH, 2);
-IS(REGISTER_BROKEN, 3);
-IS(BAD_SIGNATURE, 4);
-IS(BAD_NUMBER, 5);
-IS(TERM_LENGTH, 6);
-IS(MALFORMED, 7);
-IS(NESTING, 8);
-IS(UNBOUND_VARIABLE, 9);
-IS(UNKNOWN_CONSTANT, 10);
-IS(CONDITION_FAILS, 11);
-IS(TYPE_TOO_LONG, 12);
-IS(ANOTHER_PROPOSITION, 13);
-IS(NOT_HELD, 14);
-IS(DESK_SAYS, 15);
-IS(REGISTER_FULL, 16);
-IS(PAST_LAST_RECORD, 17);
-IS(NOT_A_FUNCTION, 18);
-IS(ARGUMENT_MISMATCH, 19);
-IS(VARIABLE_ESCAPES, 20);
-IS(OUT_OF_FORM, 21);
-IS(HELD_OUTSIDE, 22);
-IS(DAY_BEFORE_LATEST, 23);
-IS(UNBOUND, 24);
-IS(OUTPUT_SHORT, 25);
-IS(RULE, 1);
-IS(SAY, 2);
-IS(GRANT, 3);
-IS(RECEIPT, 4);
-IS(NO_SURVEY, 4294967295);
-
 // a lent list of words, with a guard behind it, and what it held before the call
 struct lent {
     uint32_t words[MOST + GUARD], before[MOST + GUARD];

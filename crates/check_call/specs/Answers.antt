@@ -1,14 +1,10 @@
 -- What check hands back: the type's words, a number and a place.
 use Prim.Native.Nat.{ℕ}
 use mathlib.Core.Path.{_≡_}
-use mathlib.Core.List.{List, []}
-use Rattle.logic.specs.Result.{Result, ok, refused, number-of, place-of}
-use Rattle.logic.specs.Term.{Term, encode}
-
--- "A refusal gives .. an empty part"
-abbrev pub type-of : Result Term → List ℕ
-type-of (ok A) = encode A
-type-of (refused m p) = []
+use mathlib.Core.List.{List}
+use Rattle.logic.specs.Result.{Result, number-of, place-of}
+use Rattle.logic.specs.Term.{Term}
+use Rattle.register.specs.Calls.{type-of}
 
 -- what check hands back: a part of the workspace that holds exactly the type's words, a number and a place
 pub record HandedAs (o : Result Term) (part : List ℕ) (number place : ℕ) : Type 0 where

@@ -1,2 +1,5 @@
--- The demands hold.
+-- The demands hold, with the theorems beside them.
+pub mod Logic
+pub mod Guards
+pub mod Fields
 pub mod Demands

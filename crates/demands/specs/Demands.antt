@@ -1,7 +1,10 @@
--- The three demands: of the calls on the register, of the extract desk and of the converters, and of lists of calls; and
--- with them the theorems that guard the definitions by relations and literals.
+-- What is proved, in one record: the three demands, of the calls on the register, of the extract desk, of the converters
+-- and of lists of calls; the theorems beside them; those of the logic; and the guards. proofs/Demands takes each claim on
+-- calls field by field, so that one that loses a field is refused there.
 use Prim.Native.Nat.{ℕ}
 use mathlib.Core.List.{List}
+use Rattle.logic.specs.Term.{Term}
+use Rattle.logic.specs.Scope.{Signature}
 use Rattle.register.specs.Records.{Ask}
 use Rattle.register.specs.Calls.{Lent}
 use Rattle.register.specs.Succeeds.{Demand2}
@@ -18,26 +21,31 @@ use Rattle.extract.specs.Demands.{ExtractDemands}
 use Rattle.extract.specs.Desk.{DeskDemand3}
 use Rattle.editions.specs.Laws.{Laws}
 use Rattle.editions.specs.Refuses.{ConvertersDemand}
+use Rattle.demands.specs.Logic.{Words, Metatheory}
+use Rattle.demands.specs.Guards.{Guards}
 
 pub record Demands : Type 0 where
-  -- the calls on the register
+  -- the first and the second demand, of the calls on the register, of the extract desk and of the two converters
   pub refuses : Demand1
   pub succeeds : Demand2
-  -- the extract desk
   pub extracts : (l : Lent) (reg : List ℕ) (k : Ask) (hs t : List ℕ) (room : ℕ) → ExtractDemands l reg k hs t room
-  -- the two converters
   pub converts : ConvertersDemand
+  -- the third demand, also of lists with extracts
+  pub lists : Demand3
+  pub desk-lists : DeskDemand3
   -- what calls that succeed leave, what records state, what a verdict depends on, what lapses
   pub leaves : Leaving
   pub states : StatedRight
   pub depends : Verdicts
   pub lapses : Lapses
-  -- batches
+  -- batches, and their tests without writing
   pub batches : Batches
   pub once : TestedOnce
   -- the writing step, and the laws of conversion
   pub writes : WritingStep
   pub laws : Laws
-  -- lists of calls, also with extracts among them
-  pub lists : Demand3
-  pub desk-lists : DeskDemand3
+  -- the logic
+  pub words : Words
+  pub metatheory : (Σ : List Term) → Signature Σ → Metatheory Σ
+  -- examples
+  pub guards : Guards

@@ -1,2 +1,4 @@
--- The demands, for all calls.
+-- What is proved of the logic, the guards, and all of it with the demands. A reader begins with Demands.
+pub mod Logic
+pub mod Guards
 pub mod Demands

@@ -1,1 +1,1 @@
-// The demands for all calls are stated in specs/ and proved in proofs/; there is no code here.
+// What is proved, together: stated in specs/ and proved in proofs/; there is no code here.

@@ -14,11 +14,11 @@ use Rattle.logic.specs.Result.{Result, ok, refused, _>>=_, _>>_, known, number-
 use Rattle.logic.proofs.Basics.{clash}
 use Rattle.logic.proofs.Results.{bound, tested, found, both-true}
 use Rattle.register.specs.Records.{Record, Content, record-head, header, words-of, used-by, register-content}
-use Rattle.register.specs.Calls.{read-call}
+use Rattle.register.specs.Calls.{read-call, body-of, kind-of}
 use Rattle.register.proofs.Bounds.{read-bound}
 use Rattle.register.proofs.Words.{words-append}
 use Rattle.records.specs.Items.{RecordsAt}
-use Rattle.read_call.specs.Read.{Among, body-of, kind-of}
+use Rattle.read_call.specs.Read.{Among}
 use Rattle.records.proofs.Items.{record-words, records-there}
 use Rattle.records.proofs.Walks.{body-from, body-to}
 use Rattle.read_call.proofs.ReadAnswers.{Reached, reached-bounds, read-there}

@@ -7,10 +7,8 @@ use lib.ListN.{length, take, drop}
 use Rattle.logic.specs.Result.{Result, ok, refused, _>>=_, _>>_, without-value}
 use Rattle.logic.specs.Term.{Term}
 use Rattle.register.specs.Records.{Statement, Ask, record-head, used-by, register-content}
-use Rattle.register.specs.Calls.{Lent, open-call, after-open, say-call, after-say, request-call, after-request, read-call}
+use Rattle.register.specs.Calls.{Lent, open-call, after-open, say-call, after-say, request-call, after-request, type-of, read-call, body-of, kind-of}
 use Rattle.register.specs.Batch.{Batched, all-granted, refused-at, batch-call, batch-leaves}
-use Rattle.read_call.specs.Read.{body-of, kind-of}
-use Rattle.check_call.specs.Answers.{type-of}
 use Rattle.words.specs.Place.{after-write}
 use Rattle.extract.specs.Extract.{extract-call}
 

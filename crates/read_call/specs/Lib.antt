@@ -1,2 +1,2 @@
--- What read is asked and hands back.
+-- What the search for a record is asked.
 pub mod Read

@@ -1,0 +1,213 @@
+-- Each claim on calls, field by field: one that loses a field, or gains one, is refused here.
+use Prim.Native.Nat.{ℕ}
+use mathlib.Core.List.{List}
+use Rattle.logic.specs.Result.{Result, Answers}
+use Rattle.register.specs.Records.{Record, Ask, Content}
+use Rattle.register.specs.Calls.{Lent}
+use Rattle.register.specs.Succeeds.{Demand2}
+use Rattle.register.specs.Refuses.{BatchAnswers, Demand1}
+use Rattle.register.specs.Leaves.{Leaves, Leaving}
+use Rattle.register.specs.Stated.{StatedRight}
+use Rattle.register.specs.Verdict.{Verdicts}
+use Rattle.register.specs.Lapse.{Lapses}
+use Rattle.register.specs.Batch.{Batched, Batches}
+use Rattle.register.specs.BatchTests.{TestedOnce}
+use Rattle.register.specs.History.{Setting, Call, Reordered, Replaced, Demand}
+use Rattle.homes.specs.Right.{WritingStep}
+use Rattle.extract.specs.Demands.{ExtractDemands}
+use Rattle.extract.specs.Desk.{DeskCall, DeskDemand}
+use Rattle.editions.specs.Laws.{Laws}
+use Rattle.editions.specs.Refuses.{ConvertersDemand}
+
+-- ---- answers, and what calls leave
+
+pub answers : {X : Type 0} {o : Result X} {S : X → Type 0} {R : ℕ → ℕ → Type 0} → Answers o S R → Answers o S R
+answers a = record {
+  succeeds = a .succeeds;
+  refuses = a .refuses;
+  either = a .either;
+  not-both = a .not-both;
+  one-success = a .one-success;
+  one-refusal = a .one-refusal;
+}
+
+pub batch-answers : {b : Batched} {S : Type 0} {R : ℕ → ℕ → ℕ → Type 0} → BatchAnswers b S R → BatchAnswers b S R
+batch-answers a = record {
+  succeeds = a .succeeds;
+  refuses = a .refuses;
+  either = a .either;
+  not-both = a .not-both;
+  one-refusal = a .one-refusal;
+}
+
+pub leaves : {old : List ℕ} {day : ℕ} {rs : List Record} {new : List ℕ} → Leaves old day rs new → Leaves old day rs new
+leaves l = record {
+  unbroken = l .unbroken;
+  size = l .size;
+  behind = l .behind;
+}
+
+-- ---- the first and the second demand
+
+pub first : Demand1 → Demand1
+first d = record {
+  checks = λ l reg day ws. answers (d .checks l reg day ws);
+  requests = λ l reg k. answers (d .requests l reg k);
+  batches = λ l reg day ws xs h. batch-answers (d .batches l reg day ws xs h);
+  says = λ l reg day st. answers (d .says l reg day st);
+  opens = λ l reg rules. answers (d .opens l reg rules);
+  reads = λ reg k. answers (d .reads reg k);
+  check-empty = d .check-empty;
+  read-empty = d .read-empty;
+  request-unchanged = d .request-unchanged;
+  batch-unchanged = d .batch-unchanged;
+  say-unchanged = d .say-unchanged;
+  open-unchanged = d .open-unchanged;
+}
+
+pub second : Demand2 → Demand2
+second d = record {
+  checks = d .checks;
+  grants = d .grants;
+  batches = d .batches;
+  says = d .says;
+  opens = d .opens;
+  well-formed = d .well-formed;
+  unique = d .unique;
+}
+
+pub extracts : {l : Lent} {reg : List ℕ} {k : Ask} {hs t : List ℕ} {room : ℕ} → ExtractDemands l reg k hs t room → ExtractDemands l reg k hs t room
+extracts d = record {
+  answers = answers (d .answers);
+  form-first = d .form-first;
+  then-request = d .then-request;
+  as-request = d .as-request;
+  register-kept = d .register-kept;
+  output-right = d .output-right;
+  output-kept = d .output-kept;
+}
+
+pub converts : ConvertersDemand → ConvertersDemand
+converts d = record {
+  answers = λ e ws room. answers (d .answers e ws room);
+  unchanged = d .unchanged;
+  past = d .past;
+}
+
+-- ---- the third demand
+
+pub reordered : {s : Setting} {reg : List ℕ} {c : Content} {xs ys : List Call} → Reordered s reg c xs ys → Reordered s reg c xs ys
+reordered r = record {
+  held-alike = r .held-alike;
+  replies-alike = r .replies-alike;
+}
+
+pub replaced : {s : Setting} {reg : List ℕ} {c : Content} {xs : List Call} → Replaced s reg c xs → Replaced s reg c xs
+replaced r = record {
+  no-batch = r .no-batch;
+  same-register = r .same-register;
+  same-content = r .same-content;
+  same-answers = r .same-answers;
+  same-grants = r .same-grants;
+  same-days = r .same-days;
+  same-words = r .same-words;
+  same-refusals = r .same-refusals;
+}
+
+pub third : {s : Setting} {reg : List ℕ} {c : Content} {xs : List Call} → Demand s reg c xs → Demand s reg c xs
+third d = record {
+  content = d .content;
+  answered = d .answered;
+  desk = d .desk;
+  rechecks = d .rechecks;
+  size = d .size;
+  words = d .words;
+  day = d .day;
+  reordered = λ day ys o p n n′. reordered (d .reordered day ys o p n n′);
+  replaced = replaced (d .replaced);
+  reordered-singles = λ day ys o p n n′. reordered (d .reordered-singles day ys o p n n′);
+}
+
+pub desk-third : {s : Setting} {reg : List ℕ} {c : Content} {xs : List DeskCall} → DeskDemand s reg c xs → DeskDemand s reg c xs
+desk-third d = record {
+  same-register = d .same-register;
+  answered = d .answered;
+  demand = third (d .demand);
+  recorded = d .recorded;
+  reordered = λ day ys o p n n′. reordered (d .reordered day ys o p n n′);
+  reordered-singles = λ day ys o p n n′. reordered (d .reordered-singles day ys o p n n′);
+}
+
+-- ---- the theorems beside them
+
+pub leaving : Leaving → Leaving
+leaving t = record {
+  opened = λ h. leaves (t .opened h);
+  said = λ h. leaves (t .said h);
+  said-again = λ h. leaves (t .said-again h);
+  granted = λ h. leaves (t .granted h);
+  batched = λ k ks i h u. leaves (t .batched k ks i h u);
+}
+
+pub stated : StatedRight → StatedRight
+stated t = record {
+  listed = t .listed;
+  right = t .right;
+}
+
+pub verdicts : Verdicts → Verdicts
+verdicts t = record {
+  checks = t .checks;
+  requests = t .requests;
+  says = t .says;
+  batches = t .batches;
+}
+
+pub lapses : Lapses → Lapses
+lapses t = record {
+  stays = t .stays;
+  outside = t .outside;
+  unheld = t .unheld;
+  passed = t .passed;
+  passed-22 = t .passed-22;
+}
+
+pub batches : Batches → Batches
+batches t = record {
+  listed = t .listed;
+  succeeds = t .succeeds;
+  leaves = t .leaves;
+  fails = t .fails;
+  unchanged = t .unchanged;
+  too-many = t .too-many;
+  empty = t .empty;
+  empty-leaves = t .empty-leaves;
+}
+
+pub once : TestedOnce → TestedOnce
+once t = record {
+  same-verdict = t .same-verdict;
+  same-answer = t .same-answer;
+}
+
+pub writes : WritingStep → WritingStep
+writes t = record {
+  form = t .form;
+  right = t .right;
+  counted = t .counted;
+}
+
+pub laws : Laws → Laws
+laws t = record {
+  one-binder = t .one-binder;
+  first-unbound = t .first-unbound;
+  kept = t .kept;
+  named-by-count = t .named-by-count;
+  well-formed = t .well-formed;
+  document-01 = t .document-01;
+  same-words = t .same-words;
+  back = t .back;
+  closed = t .closed;
+  back-words = t .back-words;
+  checked = t .checked;
+}
