@@ -87,6 +87,7 @@ history-guards = record {
   later-before = refl;
   later-day = refl;
   later-setting = refl;
+  no-refusal-behind = ((λ f. elim f [ ]), ((λ f. elim f [ ]), tt));
   no-refusal = ((λ f. elim f [ ]), ((λ f. elim f [ ]), tt));
   no-refusal-turned = ((λ f. elim f [ ]), ((λ f. elim f [ ]), tt));
   first-refused = λ h. h .0 request-refused;

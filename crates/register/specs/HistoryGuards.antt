@@ -94,7 +94,9 @@ pub record HistoryGuards : Type 0 where
   pub later-day : replies (opened-sample 76) (call setting say-consent ∷ check-consent 19 ∷ []) ≡ said (ok true) ∷ checked (refused 22 0) ∷ []
   pub later-setting : replies (opened-sample 76) (call second-unreceipted say-consent ∷ call setting say-consent ∷ call setting (request-on 14) ∷ []) ≡
       said (refused 5 0) ∷ said (ok true) ∷ requested (refused 23 0) ∷ []
-  -- "if neither order has a refusal": two orders that have none, and two that have one, the first call's and the last's
+  -- "if neither order has a refusal": a request behind the say that it rests on; two orders that have none; and two
+  -- lists that have one, the first call's and the last's
+  pub no-refusal-behind : NoRefusal setting (opened-sample 90) (say-consent ∷ request-extract ∷ [])
   pub no-refusal : NoRefusal setting (opened-sample 90) two-says
   pub no-refusal-turned : NoRefusal setting (opened-sample 90) two-says-turned
   pub first-refused : NoRefusal setting (opened-sample 90) (request-extract ∷ say-consent ∷ []) → ⊥
