@@ -8,16 +8,17 @@ use Rattle.logic.specs.Infer.{infer, same-term, conclusion}
 use Rattle.logic.specs.SignatureList.{constants, operations}
 use Rattle.register.specs.Records.{records, words-of, statements-from, some-of, same-words}
 use Rattle.register.specs.Calls.{opening}
-use Rattle.register.specs.History.{run}
+use Rattle.register.specs.History.{request-refused, run}
 use Rattle.register.specs.Worked.{listed}
 use Rattle.homes.specs.Homes.{rising, rows, formed, survey-code, joined}
 use Rattle.extract.specs.Extract.{extract-call}
-use Rattle.extract.specs.Desk.{desk-run, desk-answers}
+use Rattle.extract.specs.Desk.{desk-run, desk-answers, as-requests, NoDeskRefusal}
 use Rattle.extract.specs.Guards.{ExtractGuards}
 
 pub extract-guards : ExtractGuards
 unfolding infer same-term conclusion read too-deep first-miss shift fill-at occurs size encode ℕ-discrete constants operations records
     words-of statements-from some-of same-words opening run listed rising rows formed survey-code joined extract-call desk-run desk-answers
+    as-requests NoDeskRefusal
 extract-guards = record {
   granted = refl;
   written = refl;
@@ -30,6 +31,10 @@ extract-guards = record {
   too-early = refl;
   lapsed-say = refl;
   not-said = refl;
+  behind-say = refl;
+  as-its-request = refl;
+  no-refusal = ((λ f. elim f [ ]), ((λ f. elim f [ ]), tt));
+  a-refusal = λ h. h .1 .0 request-refused;
   not-written = refl;
   register-kept = refl;
 }

@@ -1,6 +1,7 @@
 -- Batches by literals, by computation.
 use mathlib.Core.Path.{refl}
 use native.Mathlib.Decide.{ℕ-discrete}
+use native.Mathlib.Omega.{arith}
 use Rattle.logic.specs.Term.{size, encode}
 use Rattle.logic.specs.Move.{shift, fill-at, occurs}
 use Rattle.logic.specs.Reading.{read, too-deep, first-miss}
@@ -10,18 +11,19 @@ use Rattle.register.specs.Records.{records, words-of, statements-from, s
 use Rattle.register.specs.Calls.{opening}
 use Rattle.register.specs.Batch.{item-list, asks, in-turn, after-requests, all-entries, granted-words}
 use Rattle.register.specs.BatchTests.{items-own}
-use Rattle.register.specs.History.{run, answers, read-off, added-words, grants, days, singles, single-answers}
+use Rattle.register.specs.History.{run, answers, read-off, added-words, grants, days, singles, single-answers, NoBatch}
 use Rattle.register.specs.Worked.{listed}
 use Rattle.register.specs.BatchGuards.{times, BatchGuards}
 
 pub batch-guards : BatchGuards
 unfolding infer same-term conclusion read too-deep first-miss shift fill-at occurs size encode ℕ-discrete constants operations records
     words-of statements-from same-words some-of opening item-list asks in-turn after-requests all-entries granted-words items-own run answers read-off
-    added-words grants days singles single-answers listed times
+    added-words grants days singles single-answers NoBatch listed times
 batch-guards = record {
   one = refl;
   both = refl;
   sixteen = refl;
+  sixteen-items = (omega arith, omega arith);
   sixteenth = refl;
   both-left = refl;
   two-operations = refl;
@@ -83,6 +85,7 @@ batch-guards = record {
   both-words = refl;
   both-read-off = refl;
   both-singles = refl;
+  both-not-singles = λ h. h .0;
   both-single-answers = refl;
   none-between = refl;
   none-read-off = refl;

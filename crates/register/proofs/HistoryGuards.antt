@@ -1,7 +1,7 @@
 -- Lists of calls by literals, by computation.
 use Prim.Native.Nat.{ℕ, _<_}
 use mathlib.Core.Path.{_≡_, refl, sym, subst}
-use mathlib.Core.List.{[], _∷_, List·Memᴰ·head}
+use mathlib.Core.List.{[], _∷_, List·Memᴰ·head, List·Memᴰ·eq-of-singleton}
 use mathlib.Core.Option.{some}
 use native.Mathlib.Decide.{ℕ-discrete}
 use native.Mathlib.Omega.{arith}
@@ -16,10 +16,10 @@ use Rattle.logic.proofs.Results.{ok-inj}
 use Rattle.logic.proofs.Check.{check-term-right}
 use Rattle.logic.proofs.SignatureList.{signature-right}
 use Rattle.logic.proofs.Signatures.{sample-signature}
-use Rattle.register.specs.Records.{Content, records, words-of, statements-from, same-words, some-of, say-shape, Held}
+use Rattle.register.specs.Records.{ask-of, Content, records, words-of, statements-from, same-words, some-of, say-shape, Held}
 use Rattle.register.specs.Calls.{outline-of, opening}
 use Rattle.register.specs.Lapse.{HeldBefore}
-use Rattle.register.specs.Verdict.{both-whole, SameSigns}
+use Rattle.register.specs.Verdict.{both-broken, both-whole, SameSigns, SameForAll}
 use Rattle.register.specs.History.{lent, request-refused, NoRefusal, OneDay, run, replies}
 use Rattle.register.specs.Worked.{listed, setting}
 use Rattle.register.specs.HistoryGuards.{other-consent, both-consents, consents, consents-content, HistoryGuards}
@@ -37,6 +37,9 @@ same-without day c c′ t r n q e = absurd (no-sign n q (subst (λ t. Embedded n
 -- what such a register says
 abbrev said-content : ℕ → Content
 said-content a = record { latest = 5; records = record { kind = 2; body = a ∷ 1 ∷ 4 ∷ encode consent } ∷ [] }
+
+same-for-one : SameForAll (ask-of 0 7 9 6 (encode P) ∷ []) (said-content 3) (said-content 4)
+same-for-one = ((λ k m. rw (List·Memᴰ·eq-of-singleton m) (same-without 6 (said-content 3) (said-content 4))), refl)
 
 -- ---- the first of the two Signs is held on day 6
 
@@ -96,6 +99,8 @@ history-guards = record {
   of-another-day = λ h. let e : _≡_ {A = ℕ} 16 15 = h .0 in omega arith;
   alike-check = record { lengths = refl; words-used = refl; contents = both-whole (same-without 3 (said-content 3) (said-content 4)) };
   alike-request = record { lengths = refl; words-used = refl; contents = both-whole (same-without 6 (said-content 3) (said-content 4), refl) };
+  alike-batch = record { lengths = refl; words-used = refl; contents = both-whole same-for-one };
+  alike-broken = record { lengths = refl; words-used = refl; contents = both-broken };
   alike-say = record { lengths = refl; words-used = refl; contents = both-whole ((same-without 6 (said-content 3) (said-content 4), refl), refl) };
   held-before = held-before;
   second-lapsed = refl;

@@ -10,10 +10,10 @@ use Rattle.logic.specs.Term.{Term, sign, P, S, Const, Text, Pi, App, Bind, enco
 use Rattle.logic.specs.Worked.{sample, consent, p}
 use Rattle.register.specs.Records.{Record, Content, ask-of, used, latest}
 use Rattle.register.specs.Calls.{Lent}
-use Rattle.register.specs.Batch.{Batched, all-granted, refused-at, batch-call, batch-leaves}
+use Rattle.register.specs.Batch.{items, Batched, all-granted, refused-at, batch-call, batch-leaves, SomeItems}
 use Rattle.register.specs.BatchTests.{batch-once}
 use Rattle.register.specs.History.{Call, request, batch, said, requested, batched, run, answers, read-off, added-words, grants, days, singles}
-use Rattle.register.specs.History.{single-answers}
+use Rattle.register.specs.History.{single-answers, NoBatch}
 use Rattle.register.specs.Worked.{listed, setting, opened-sample, say-consent, request-extract, receipt-proved, receipt-sign}
 use Rattle.register.specs.Order.{with-lent, lends, constant-of-none, short-register, broken-register, empty-register}
 
@@ -148,6 +148,7 @@ pub record BatchGuards : Type 0 where
   pub one : answer-to-batch 18 (plain-item 9) ≡ all-granted
   pub both : answer-to-batch 43 both-items ≡ all-granted
   pub sixteen : answer-to-batch 288 (times 16 (plain-item 9)) ≡ all-granted
+  pub sixteen-items : SomeItems (items 15 (times 16 (plain-item 9)))
   pub sixteenth : answer-to-batch 288 (times 15 (plain-item 9) ++ empty-proof) ≡ refused-at 15 6 0
   -- "A batch is one day and a word list of operation, v, u, length, proof"
   pub both-left : left-by-batch 43 both-items ≡ with-both
@@ -232,6 +233,7 @@ pub record BatchGuards : Type 0 where
   pub both-read-off : read-off setting 54 ruled-content (batch-both ∷ []) ≡ record { latest = 15; records = rule-of-desk ∷ entered }
   -- and as the list that it is replaced by
   pub both-singles : singles setting (ruled 43) (batch-both ∷ []) ≡ first-request ∷ second-request ∷ []
+  pub both-not-singles : NoBatch (batch-both ∷ []) → ⊥
   pub both-single-answers : single-answers setting (ruled 43) (batch-both ∷ []) ≡ requested (ok tt) ∷ requested (ok tt) ∷ []
   -- an empty one has no request, and sets no day
   pub none-between : answers setting (ruled 43) (first-request ∷ batch 12288 16 [] ∷ second-request ∷ []) ≡

@@ -12,7 +12,7 @@ use Rattle.logic.specs.Term.{Term, sign, P, Const, Text, Name, Says, App, Bind,
 use Rattle.logic.specs.Worked.{sample, consent}
 use Rattle.register.specs.Records.{Statement, Ask, Content, statement-of, ask-of}
 use Rattle.register.specs.Calls.{check-call, open-call, after-open, say-call, after-say, request-call, after-request}
-use Rattle.register.specs.Verdict.{Alike, SameSigns, SameDay, SameStatement}
+use Rattle.register.specs.Verdict.{Alike, SameSigns, SameDay, SameStatement, SameForAll}
 use Rattle.register.specs.Lapse.{HeldBefore}
 use Rattle.register.specs.History.{Setting, lent, Call, batch, said, requested, checked, NoRefusal, OneDay, Later, call, check, replies}
 use Rattle.register.specs.Worked.{listed, setting, opened-sample, say-from, say-consent, request-on, request-extract, receipt-proved}
@@ -105,9 +105,12 @@ pub record HistoryGuards : Type 0 where
   pub of-one-day : OneDay 15 (say-from 15 3 12 18 ∷ request-on 15 ∷ batch 12288 15 [] ∷ [])
   pub of-another-day : OneDay 15 (say-from 16 3 15 15 ∷ []) → ⊥
   -- "A verdict .. depends only on .. which embedded signatures are held": a term without a Sign gets one verdict
-  -- whoever said what, also of a request, and of a say whose statement is in neither
+  -- whoever said what, also of a request, of a say whose statement is in neither, and of a batch of such requests; and
+  -- on two broken registers each term does
   pub alike-check : Alike (SameSigns 3 (encode P)) (consent-by 3) (consent-by 4)
   pub alike-request : Alike (SameDay 6 (encode P)) (consent-by 3) (consent-by 4)
+  pub alike-batch : Alike (SameForAll (ask-of 0 7 9 6 (encode P) ∷ [])) (consent-by 3) (consent-by 4)
+  pub alike-broken : Alike (SameSigns 3 (encode (sign 3 consent))) (9 ∷ 0 ∷ 5 ∷ []) (9 ∷ 1 ∷ 6 ∷ [])
   pub alike-say : Alike (SameStatement 6 (statement-of 5 1 4 (encode P))) (consent-by 3) (consent-by 4)
   -- "the first Sign with either decides": on day 6 the first is held, and the second is not
   pub held-before : HeldBefore (lent setting 12288) consents 6 (encode both-consents) 3 other-consent 5 consents-content
