@@ -1,40 +1,42 @@
 -- The demands hold: each crate proves them of its calls.
 use Rattle.register.proofs.Refuses.{demand1}
 use Rattle.register.proofs.Succeeds.{demand2}
-use Rattle.register.proofs.Leaves.{leaving as leaving-proved}
+use Rattle.register.proofs.Leaves.{leaving}
 use Rattle.register.proofs.Stated.{stated-right}
-use Rattle.register.proofs.Verdict.{verdicts as verdicts-proved}
-use Rattle.register.proofs.Lapse.{lapses as lapses-proved}
-use Rattle.register.proofs.Batch.{batches as batches-proved}
+use Rattle.register.proofs.Verdict.{verdicts}
+use Rattle.register.proofs.Lapse.{lapses}
+use Rattle.register.proofs.Batch.{batches}
 use Rattle.register.proofs.BatchTests.{tested-once}
 use Rattle.register.proofs.Demand.{demand3}
 use Rattle.homes.proofs.Outputs.{writing-step}
 use Rattle.extract.proofs.Demands.{extract-demands}
 use Rattle.extract.proofs.Histories.{desk-demand3}
-use Rattle.editions.proofs.Laws.{laws as laws-proved}
+use Rattle.editions.proofs.Laws.{laws}
 use Rattle.editions.proofs.Refuses.{converters}
 use Rattle.demands.specs.Demands.{Demands}
-use Rattle.demands.proofs.Fields.{first, second, extracts, converts, third, desk-third, leaving, stated, verdicts, lapses, batches, once, writes, laws}
-use Rattle.demands.proofs.Logic.{words, metatheory}
-use Rattle.demands.proofs.Guards.{guards}
+use Rattle.demands.proofs.Fields.{demand1-fields, demand2-fields, extract-fields, converters-fields, demand3-fields, desk-demand3-fields}
+use Rattle.demands.proofs.Fields.{leaving-fields, stated-right-fields, verdicts-fields, lapses-fields, batches-fields, tested-once-fields}
+use Rattle.demands.proofs.Fields.{writing-step-fields, laws-fields}
+use Rattle.demands.proofs.Logic.{word-laws, metatheory}
+use Rattle.demands.proofs.Guards.{definition-guards}
 
 pub demands : Demands
 demands = record {
-  refuses = first demand1;
-  succeeds = second demand2;
-  extracts = λ l reg k hs t room. extracts (extract-demands l reg k hs t room);
-  converts = converts converters;
-  lists = λ s w given rule-words rules calls e. let (r, l, d) = demand3 s w given rule-words rules calls e in (r, l, third d);
-  desk-lists = λ s w given rule-words rules calls e. desk-third (desk-demand3 s w given rule-words rules calls e);
-  leaves = leaving leaving-proved;
-  states = stated stated-right;
-  depends = verdicts verdicts-proved;
-  lapses = lapses lapses-proved;
-  batches = batches batches-proved;
-  once = once tested-once;
-  writes = writes writing-step;
-  laws = laws laws-proved;
-  words = words;
+  refuses = demand1-fields demand1;
+  succeeds = demand2-fields demand2;
+  extracts = λ l reg k hs t room. extract-fields (extract-demands l reg k hs t room);
+  converts = converters-fields converters;
+  lists = λ s w given rule-words rules calls e. let (r, l, d) = demand3 s w given rule-words rules calls e in (r, l, demand3-fields d);
+  desk-lists = λ s w given rule-words rules calls e. desk-demand3-fields (desk-demand3 s w given rule-words rules calls e);
+  leaves = leaving-fields leaving;
+  states = stated-right-fields stated-right;
+  depends = verdicts-fields verdicts;
+  lapses = lapses-fields lapses;
+  batches = batches-fields batches;
+  once = tested-once-fields tested-once;
+  writes = writing-step-fields writing-step;
+  laws = laws-fields laws;
+  words = word-laws;
   metatheory = metatheory;
-  guards = guards;
+  guards = definition-guards;
 }

@@ -21,8 +21,8 @@ use Rattle.editions.specs.Refuses.{ConvertersDemand}
 
 -- ---- answers, and what calls leave
 
-pub answers : {X : Type 0} {o : Result X} {S : X → Type 0} {R : ℕ → ℕ → Type 0} → Answers o S R → Answers o S R
-answers a = record {
+pub answers-fields : {X : Type 0} {o : Result X} {S : X → Type 0} {R : ℕ → ℕ → Type 0} → Answers o S R → Answers o S R
+answers-fields a = record {
   succeeds = a .succeeds;
   refuses = a .refuses;
   either = a .either;
@@ -31,8 +31,8 @@ answers a = record {
   one-refusal = a .one-refusal;
 }
 
-pub batch-answers : {b : Batched} {S : Type 0} {R : ℕ → ℕ → ℕ → Type 0} → BatchAnswers b S R → BatchAnswers b S R
-batch-answers a = record {
+pub batch-answers-fields : {b : Batched} {S : Type 0} {R : ℕ → ℕ → ℕ → Type 0} → BatchAnswers b S R → BatchAnswers b S R
+batch-answers-fields a = record {
   succeeds = a .succeeds;
   refuses = a .refuses;
   either = a .either;
@@ -40,8 +40,8 @@ batch-answers a = record {
   one-refusal = a .one-refusal;
 }
 
-pub leaves : {old : List ℕ} {day : ℕ} {rs : List Record} {new : List ℕ} → Leaves old day rs new → Leaves old day rs new
-leaves l = record {
+pub leaves-fields : {old : List ℕ} {day : ℕ} {rs : List Record} {new : List ℕ} → Leaves old day rs new → Leaves old day rs new
+leaves-fields l = record {
   unbroken = l .unbroken;
   size = l .size;
   behind = l .behind;
@@ -49,14 +49,14 @@ leaves l = record {
 
 -- ---- the first and the second demand
 
-pub first : Demand1 → Demand1
-first d = record {
-  checks = λ l reg day ws. answers (d .checks l reg day ws);
-  requests = λ l reg k. answers (d .requests l reg k);
-  batches = λ l reg day ws xs h. batch-answers (d .batches l reg day ws xs h);
-  says = λ l reg day st. answers (d .says l reg day st);
-  opens = λ l reg rules. answers (d .opens l reg rules);
-  reads = λ reg k. answers (d .reads reg k);
+pub demand1-fields : Demand1 → Demand1
+demand1-fields d = record {
+  checks = λ l reg day ws. answers-fields (d .checks l reg day ws);
+  requests = λ l reg k. answers-fields (d .requests l reg k);
+  batches = λ l reg day ws xs h. batch-answers-fields (d .batches l reg day ws xs h);
+  says = λ l reg day st. answers-fields (d .says l reg day st);
+  opens = λ l reg rules. answers-fields (d .opens l reg rules);
+  reads = λ reg k. answers-fields (d .reads reg k);
   check-empty = d .check-empty;
   read-empty = d .read-empty;
   request-unchanged = d .request-unchanged;
@@ -65,8 +65,8 @@ first d = record {
   open-unchanged = d .open-unchanged;
 }
 
-pub second : Demand2 → Demand2
-second d = record {
+pub demand2-fields : Demand2 → Demand2
+demand2-fields d = record {
   checks = d .checks;
   grants = d .grants;
   batches = d .batches;
@@ -76,9 +76,9 @@ second d = record {
   unique = d .unique;
 }
 
-pub extracts : {l : Lent} {reg : List ℕ} {k : Ask} {hs t : List ℕ} {room : ℕ} → ExtractDemands l reg k hs t room → ExtractDemands l reg k hs t room
-extracts d = record {
-  answers = answers (d .answers);
+pub extract-fields : {l : Lent} {reg : List ℕ} {k : Ask} {hs t : List ℕ} {room : ℕ} → ExtractDemands l reg k hs t room → ExtractDemands l reg k hs t room
+extract-fields d = record {
+  answers = answers-fields (d .answers);
   form-first = d .form-first;
   then-request = d .then-request;
   as-request = d .as-request;
@@ -87,23 +87,23 @@ extracts d = record {
   output-kept = d .output-kept;
 }
 
-pub converts : ConvertersDemand → ConvertersDemand
-converts d = record {
-  answers = λ e ws room. answers (d .answers e ws room);
+pub converters-fields : ConvertersDemand → ConvertersDemand
+converters-fields d = record {
+  answers = λ e ws room. answers-fields (d .answers e ws room);
   unchanged = d .unchanged;
   past = d .past;
 }
 
 -- ---- the third demand
 
-pub reordered : {s : Setting} {reg : List ℕ} {c : Content} {xs ys : List Call} → Reordered s reg c xs ys → Reordered s reg c xs ys
-reordered r = record {
+pub reordered-fields : {s : Setting} {reg : List ℕ} {c : Content} {xs ys : List Call} → Reordered s reg c xs ys → Reordered s reg c xs ys
+reordered-fields r = record {
   held-alike = r .held-alike;
   replies-alike = r .replies-alike;
 }
 
-pub replaced : {s : Setting} {reg : List ℕ} {c : Content} {xs : List Call} → Replaced s reg c xs → Replaced s reg c xs
-replaced r = record {
+pub replaced-fields : {s : Setting} {reg : List ℕ} {c : Content} {xs : List Call} → Replaced s reg c xs → Replaced s reg c xs
+replaced-fields r = record {
   no-batch = r .no-batch;
   same-register = r .same-register;
   same-content = r .same-content;
@@ -114,8 +114,8 @@ replaced r = record {
   same-refusals = r .same-refusals;
 }
 
-pub third : {s : Setting} {reg : List ℕ} {c : Content} {xs : List Call} → Demand s reg c xs → Demand s reg c xs
-third d = record {
+pub demand3-fields : {s : Setting} {reg : List ℕ} {c : Content} {xs : List Call} → Demand s reg c xs → Demand s reg c xs
+demand3-fields d = record {
   content = d .content;
   answered = d .answered;
   desk = d .desk;
@@ -123,48 +123,48 @@ third d = record {
   size = d .size;
   words = d .words;
   day = d .day;
-  reordered = λ day ys o p n n′. reordered (d .reordered day ys o p n n′);
-  replaced = replaced (d .replaced);
-  reordered-singles = λ day ys o p n n′. reordered (d .reordered-singles day ys o p n n′);
+  reordered = λ day ys o p n n′. reordered-fields (d .reordered day ys o p n n′);
+  replaced = replaced-fields (d .replaced);
+  reordered-singles = λ day ys o p n n′. reordered-fields (d .reordered-singles day ys o p n n′);
 }
 
-pub desk-third : {s : Setting} {reg : List ℕ} {c : Content} {xs : List DeskCall} → DeskDemand s reg c xs → DeskDemand s reg c xs
-desk-third d = record {
+pub desk-demand3-fields : {s : Setting} {reg : List ℕ} {c : Content} {xs : List DeskCall} → DeskDemand s reg c xs → DeskDemand s reg c xs
+desk-demand3-fields d = record {
   same-register = d .same-register;
   answered = d .answered;
-  demand = third (d .demand);
+  demand = demand3-fields (d .demand);
   recorded = d .recorded;
-  reordered = λ day ys o p n n′. reordered (d .reordered day ys o p n n′);
-  reordered-singles = λ day ys o p n n′. reordered (d .reordered-singles day ys o p n n′);
+  reordered = λ day ys o p n n′. reordered-fields (d .reordered day ys o p n n′);
+  reordered-singles = λ day ys o p n n′. reordered-fields (d .reordered-singles day ys o p n n′);
 }
 
 -- ---- the theorems beside them
 
-pub leaving : Leaving → Leaving
-leaving t = record {
-  opened = λ h. leaves (t .opened h);
-  said = λ h. leaves (t .said h);
-  said-again = λ h. leaves (t .said-again h);
-  granted = λ h. leaves (t .granted h);
-  batched = λ k ks i h u. leaves (t .batched k ks i h u);
+pub leaving-fields : Leaving → Leaving
+leaving-fields t = record {
+  opened = λ h. leaves-fields (t .opened h);
+  said = λ h. leaves-fields (t .said h);
+  said-again = λ h. leaves-fields (t .said-again h);
+  granted = λ h. leaves-fields (t .granted h);
+  batched = λ k ks i h u. leaves-fields (t .batched k ks i h u);
 }
 
-pub stated : StatedRight → StatedRight
-stated t = record {
+pub stated-right-fields : StatedRight → StatedRight
+stated-right-fields t = record {
   listed = t .listed;
   right = t .right;
 }
 
-pub verdicts : Verdicts → Verdicts
-verdicts t = record {
+pub verdicts-fields : Verdicts → Verdicts
+verdicts-fields t = record {
   checks = t .checks;
   requests = t .requests;
   says = t .says;
   batches = t .batches;
 }
 
-pub lapses : Lapses → Lapses
-lapses t = record {
+pub lapses-fields : Lapses → Lapses
+lapses-fields t = record {
   stays = t .stays;
   outside = t .outside;
   unheld = t .unheld;
@@ -172,8 +172,8 @@ lapses t = record {
   passed-22 = t .passed-22;
 }
 
-pub batches : Batches → Batches
-batches t = record {
+pub batches-fields : Batches → Batches
+batches-fields t = record {
   listed = t .listed;
   succeeds = t .succeeds;
   leaves = t .leaves;
@@ -184,21 +184,21 @@ batches t = record {
   empty-leaves = t .empty-leaves;
 }
 
-pub once : TestedOnce → TestedOnce
-once t = record {
+pub tested-once-fields : TestedOnce → TestedOnce
+tested-once-fields t = record {
   same-verdict = t .same-verdict;
   same-answer = t .same-answer;
 }
 
-pub writes : WritingStep → WritingStep
-writes t = record {
+pub writing-step-fields : WritingStep → WritingStep
+writing-step-fields t = record {
   form = t .form;
   right = t .right;
   counted = t .counted;
 }
 
-pub laws : Laws → Laws
-laws t = record {
+pub laws-fields : Laws → Laws
+laws-fields t = record {
   one-binder = t .one-binder;
   first-unbound = t .first-unbound;
   kept = t .kept;

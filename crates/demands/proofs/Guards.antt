@@ -13,10 +13,10 @@ use Rattle.register.proofs.Paper.{paper-register}
 use Rattle.homes.proofs.Guards.{homes-guards}
 use Rattle.extract.proofs.Guards.{extract-guards}
 use Rattle.editions.proofs.Guards.{named-guards}
-use Rattle.demands.specs.Guards.{Guards}
+use Rattle.demands.specs.Guards.{DefinitionGuards}
 
-pub guards : Guards
-guards = record {
+pub definition-guards : DefinitionGuards
+definition-guards = record {
   numbers = paper-register;
   starred = starred;
   worked = worked-register;

@@ -16,10 +16,10 @@ use Rattle.logic.proofs.Searches.{too-deep-first, first-miss-first}
 use Rattle.logic.proofs.Check.{check-term-right, check-statement-right}
 use Rattle.logic.proofs.SignatureList.{signature-right}
 use Rattle.logic.proofs.Refused.{check-term-refused, check-statement-refused, signature-refused}
-use Rattle.demands.specs.Logic.{Words, Metatheory}
+use Rattle.demands.specs.Logic.{WordLaws, Metatheory}
 
-pub words : Words
-words = record {
+pub word-laws : WordLaws
+word-laws = record {
   reads = read-right;
   malformed-at = read-refused;
   deep-at = too-deep-first;

@@ -21,8 +21,8 @@ use Rattle.extract.specs.Demands.{ExtractDemands}
 use Rattle.extract.specs.Desk.{DeskDemand3}
 use Rattle.editions.specs.Laws.{Laws}
 use Rattle.editions.specs.Refuses.{ConvertersDemand}
-use Rattle.demands.specs.Logic.{Words, Metatheory}
-use Rattle.demands.specs.Guards.{Guards}
+use Rattle.demands.specs.Logic.{WordLaws, Metatheory}
+use Rattle.demands.specs.Guards.{DefinitionGuards}
 
 pub record Demands : Type 0 where
   -- the first and the second demand, of the calls on the register, of the extract desk and of the two converters
@@ -45,7 +45,7 @@ pub record Demands : Type 0 where
   pub writes : WritingStep
   pub laws : Laws
   -- the logic
-  pub words : Words
+  pub words : WordLaws
   pub metatheory : (Σ : List Term) → Signature Σ → Metatheory Σ
   -- examples
-  pub guards : Guards
+  pub guards : DefinitionGuards

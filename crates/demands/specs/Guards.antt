@@ -17,7 +17,7 @@ use Rattle.homes.specs.Guards.{HomesGuards}
 use Rattle.extract.specs.Guards.{ExtractGuards}
 use Rattle.editions.specs.Guards.{NamedGuards}
 
-pub record Guards : Type 0 where
+pub record DefinitionGuards : Type 0 where
   -- every number of the documents; document 01's starred proofs and its worked register
   pub numbers : PaperNumbers
   pub starred : Starred

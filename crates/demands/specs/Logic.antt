@@ -20,7 +20,7 @@ use Rattle.logic.specs.Refused.{TermRefused, StatementRefused, BadConstant}
 use Rattle.logic.specs.SignatureList.{signature, Lists}
 
 -- words, whatever the signature
-pub record Words : Type 0 where
+pub record WordLaws : Type 0 where
   -- they are read as a term exactly if they are its encoding; the place of malformed ones
   pub reads : (ws : List ℕ) (t : Term) → (read-whole ws ≡ ok t) ↔ (Plain t × (ws ≡ encode t))
   pub malformed-at : (ws : List ℕ) (m p : ℕ) → (read-whole ws ≡ refused m p) ↔ ((m ≡ malformed) × Malformed ws p)

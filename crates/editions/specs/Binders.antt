@@ -88,7 +88,7 @@ OnlyNames = SameBinders Names Names
 abbrev pub Preserved : Edition → Named → Named → Type 0
 Preserved e = SameBinders e (other e)
 
--- the names that it gives the binders: where it gives any, they are counts
+-- the names that it gives the binders: counts, and none where it converts into document 01's edition
 abbrev pub NamesGiven : Edition → Named → Type 0
 NamesGiven Names t = Unit {0}
 NamesGiven Counts t = NamedByCount t

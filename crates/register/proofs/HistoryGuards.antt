@@ -18,6 +18,7 @@ use Rattle.logic.proofs.SignatureList.{signature-right}
 use Rattle.logic.proofs.Signatures.{sample-signature}
 use Rattle.register.specs.Records.{ask-of, Content, records, words-of, statements-from, same-words, some-of, say-shape, Held}
 use Rattle.register.specs.Calls.{outline-of, opening}
+use Rattle.register.specs.Batch.{item-list, asks, in-turn, after-requests}
 use Rattle.register.specs.Lapse.{HeldBefore}
 use Rattle.register.specs.Verdict.{both-broken, both-whole, SameSigns, SameForAll}
 use Rattle.register.specs.History.{lent, request-refused, NoRefusal, OneDay, run, replies}
@@ -80,7 +81,7 @@ held-before = record {
 
 pub history-guards : HistoryGuards
 unfolding infer same-term conclusion read too-deep first-miss shift fill-at occurs size encode ℕ-discrete constants operations records
-    words-of statements-from same-words some-of opening run replies NoRefusal OneDay listed
+    words-of statements-from same-words some-of opening item-list asks in-turn after-requests run replies NoRefusal OneDay listed
 history-guards = record {
   open-behind = refl;
   say-behind = refl;
@@ -90,7 +91,7 @@ history-guards = record {
   later-before = refl;
   later-day = refl;
   later-setting = refl;
-  no-refusal-behind = ((λ f. elim f [ ]), ((λ f. elim f [ ]), tt));
+  no-refusal-of-all = ((λ f. elim f [ ]), ((λ f. elim f [ ]), ((λ f. elim f [ ]), ((λ f. elim f [ ]), ((λ f. elim f [ ]), tt)))));
   no-refusal = ((λ f. elim f [ ]), ((λ f. elim f [ ]), tt));
   no-refusal-turned = ((λ f. elim f [ ]), ((λ f. elim f [ ]), tt));
   first-refused = λ h. h .0 request-refused;

@@ -16,7 +16,7 @@ use Rattle.register.specs.Verdict.{Alike, SameSigns, SameDay, SameStatem
 use Rattle.register.specs.Lapse.{HeldBefore}
 use Rattle.register.specs.History.{Setting, lent, Call, batch, said, requested, checked, NoRefusal, OneDay, Later, call, check, replies}
 use Rattle.register.specs.Worked.{listed, setting, opened-sample, say-from, say-consent, request-on, request-extract, receipt-proved}
-use Rattle.register.specs.BatchGuards.{permitted, desk-permits}
+use Rattle.register.specs.BatchGuards.{permitted, desk-permits, worked-batch}
 
 -- a check of what a3 said, on a day
 abbrev pub check-consent : (day : ℕ) → Later
@@ -94,9 +94,9 @@ pub record HistoryGuards : Type 0 where
   pub later-day : replies (opened-sample 76) (call setting say-consent ∷ check-consent 19 ∷ []) ≡ said (ok true) ∷ checked (refused 22 0) ∷ []
   pub later-setting : replies (opened-sample 76) (call second-unreceipted say-consent ∷ call setting say-consent ∷ call setting (request-on 14) ∷ []) ≡
       said (refused 5 0) ∷ said (ok true) ∷ requested (refused 23 0) ∷ []
-  -- "if neither order has a refusal": a request behind the say that it rests on; two orders that have none; and two
-  -- lists that have one, the first call's and the last's
-  pub no-refusal-behind : NoRefusal setting (opened-sample 90) (say-consent ∷ request-extract ∷ [])
+  -- "if neither order has a refusal": a list of every kind of call that succeeds, a repeated say and an empty batch among
+  -- them; two orders that have none; and two lists that have one, the first call's and the last's
+  pub no-refusal-of-all : NoRefusal setting (opened-sample 159) (say-consent ∷ say-consent ∷ request-extract ∷ worked-batch ∷ batch 12288 15 [] ∷ [])
   pub no-refusal : NoRefusal setting (opened-sample 90) two-says
   pub no-refusal-turned : NoRefusal setting (opened-sample 90) two-says-turned
   pub first-refused : NoRefusal setting (opened-sample 90) (request-extract ∷ say-consent ∷ []) → ⊥
