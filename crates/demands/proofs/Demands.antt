@@ -18,6 +18,7 @@ use Rattle.demands.proofs.Fields.{demand1-fields, demand2-fields, extra
 use Rattle.demands.proofs.Fields.{leaving-fields, stated-right-fields, verdicts-fields, lapses-fields, batches-fields, tested-once-fields}
 use Rattle.demands.proofs.Fields.{writing-step-fields, laws-fields}
 use Rattle.demands.proofs.Logic.{word-laws, metatheory}
+use Rattle.demands.proofs.Bounds.{bounds}
 use Rattle.demands.proofs.Guards.{definition-guards}
 
 pub demands : Demands
@@ -32,6 +33,7 @@ demands = record {
   states = stated-right-fields stated-right;
   depends = verdicts-fields verdicts;
   lapses = lapses-fields lapses;
+  bounds = bounds;
   batches = batches-fields batches;
   once = tested-once-fields tested-once;
   writes = writing-step-fields writing-step;

@@ -199,7 +199,10 @@ writing-step-fields t = record {
 
 pub laws-fields : Laws → Laws
 laws-fields t = record {
+  reads = t .reads;
+  malformed-at = t .malformed-at;
   one-binder = t .one-binder;
+  all-bound = t .all-bound;
   first-unbound = t .first-unbound;
   kept = t .kept;
   named-by-count = t .named-by-count;

@@ -10,6 +10,7 @@ use Rattle.register.proofs.Order.{call-order}
 use Rattle.register.proofs.BatchGuards.{batch-guards}
 use Rattle.register.proofs.HistoryGuards.{history-guards}
 use Rattle.register.proofs.Paper.{paper-register}
+use Rattle.decimal.proofs.Guards.{decimal-guards}
 use Rattle.homes.proofs.Guards.{homes-guards}
 use Rattle.extract.proofs.Guards.{extract-guards}
 use Rattle.editions.proofs.Guards.{named-guards}
@@ -28,6 +29,7 @@ definition-guards = record {
   whole-property = whole-property;
   separate-refusals = separate-refusals;
   separate-examples = separate-examples;
+  decimals = decimal-guards;
   homes = homes-guards;
   extracts = extract-guards;
   days = worked-days;

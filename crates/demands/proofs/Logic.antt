@@ -4,11 +4,12 @@ use Rattle.logic.specs.Term.{Term}
 use Rattle.logic.specs.Scope.{Signature}
 use Rattle.logic.proofs.Fill.{exchange}
 use Rattle.logic.proofs.Monotone.{monotone}
-use Rattle.logic.proofs.Substitution.{weaken-one, substitute, strengthen}
+use Rattle.logic.proofs.Substitution.{weaken, substitute, strengthen}
 use Rattle.logic.proofs.Regularity.{regular}
 use Rattle.logic.proofs.Proposition.{proposition-right}
 use Rattle.logic.proofs.Completeness.{infer-right}
 use Rattle.logic.proofs.Faults.{infer-refused}
+use Rattle.logic.proofs.Places.{fault}
 use Rattle.logic.proofs.SubjectReduction.{subject-reduction}
 use Rattle.logic.proofs.Reading.{read-right}
 use Rattle.logic.proofs.Malformed.{read-refused}
@@ -33,13 +34,14 @@ pub metatheory : (Σ : List Term) → Signature Σ → Metatheory Σ
 metatheory Σ sig = record {
   infers = infer-right Σ sig;
   faults = infer-refused Σ sig;
+  places = fault Σ;
   term-passes = check-term-right Σ sig;
   term-refused = check-term-refused Σ sig;
   statement-passes = check-statement-right Σ sig;
   statement-refused = check-statement-refused Σ sig;
   regular = regular Σ sig;
   propositions = proposition-right Σ sig;
-  weaken = weaken-one Σ sig;
+  weaken = weaken Σ sig;
   substitute = substitute Σ sig;
   strengthen = strengthen Σ sig;
   reduces = subject-reduction Σ sig;

@@ -1,6 +1,6 @@
--- What is proved, in one record: the three demands, of the calls on the register, of the extract desk, of the converters
--- and of lists of calls; the theorems beside them; those of the logic; and the guards. proofs/Demands takes each claim on
--- calls field by field, so that one that loses a field is refused there.
+-- What is proved on the definitions, in one record: the three demands, of the calls on the register, of the extract desk,
+-- of the converters and of lists of calls; the theorems beside them; those of the logic; and the guards. proofs/Fields
+-- takes each claim on calls field by field, so that one that loses a field is refused there.
 use Prim.Native.Nat.{ℕ}
 use mathlib.Core.List.{List}
 use Rattle.logic.specs.Term.{Term}
@@ -22,6 +22,7 @@ use Rattle.extract.specs.Desk.{DeskDemand3}
 use Rattle.editions.specs.Laws.{Laws}
 use Rattle.editions.specs.Refuses.{ConvertersDemand}
 use Rattle.demands.specs.Logic.{WordLaws, Metatheory}
+use Rattle.demands.specs.Bounds.{Bounds}
 use Rattle.demands.specs.Guards.{DefinitionGuards}
 
 pub record Demands : Type 0 where
@@ -38,6 +39,8 @@ pub record Demands : Type 0 where
   pub states : StatedRight
   pub depends : Verdicts
   pub lapses : Lapses
+  -- which numbers and places a refusal has at all
+  pub bounds : Bounds
   -- batches, and their tests without writing
   pub batches : Batches
   pub once : TestedOnce

@@ -13,6 +13,7 @@ use Rattle.register.specs.Order.{CallOrder}
 use Rattle.register.specs.BatchGuards.{BatchGuards}
 use Rattle.register.specs.HistoryGuards.{HistoryGuards}
 use Rattle.register.specs.Paper.{PaperNumbers}
+use Rattle.decimal.specs.Guards.{DecimalGuards}
 use Rattle.homes.specs.Guards.{HomesGuards}
 use Rattle.extract.specs.Guards.{ExtractGuards}
 use Rattle.editions.specs.Guards.{NamedGuards}
@@ -33,6 +34,7 @@ pub record DefinitionGuards : Type 0 where
   pub whole-property : WholeProperty
   pub separate-refusals : (Σ : List Term) → Signature Σ → SeparateRefusals Σ
   pub separate-examples : SeparateExamples
+  pub decimals : DecimalGuards
   pub homes : HomesGuards
   pub extracts : ExtractGuards
   pub days : WorkedDays

@@ -5,10 +5,12 @@ use mathlib.Core.Logic.{_↔_, _⊎_}
 use mathlib.Core.Bool.{true}
 use mathlib.Core.List.{List, [], _∷_, _++_}
 use mathlib.Core.Option.{Option, some}
+use lib.IntN.{pos}
+use lib.ListN.{length}
 use Rattle.logic.specs.Refusals.{malformed, bad-signature}
 use Rattle.logic.specs.Result.{ok, refused}
 use Rattle.logic.specs.Term.{Term, P, KindP, KindT, encode}
-use Rattle.logic.specs.Move.{raise, lower, fill, fill-at, occurs}
+use Rattle.logic.specs.Move.{shift, raise, lower, fill, fill-at, occurs}
 use Rattle.logic.specs.Typing.{Has}
 use Rattle.logic.specs.Scope.{Context, Sort}
 use Rattle.logic.specs.Reduce.{Reduces}
@@ -18,6 +20,8 @@ use Rattle.logic.specs.Faults.{HasMeasured, Faults}
 use Rattle.logic.specs.Check.{check-term, Passes, check-statement, Stated}
 use Rattle.logic.specs.Refused.{TermRefused, StatementRefused, BadConstant}
 use Rattle.logic.specs.SignatureList.{signature, Lists}
+use Rattle.logic.proofs.Substitution.{entries}
+use Rattle.logic.proofs.Places.{Fault}
 
 -- words, whatever the signature
 pub record WordLaws : Type 0 where
@@ -39,6 +43,8 @@ pub record Metatheory (Σ : List Term) : Type 0 where
   pub infers : {Γ : List Term} {t A : Term} (at : ℕ) → Context Σ Γ → (infer Σ Γ at t ≡ ok A) ↔ HasMeasured Σ Γ t A
   pub faults : (t : Term) {Γ : List Term} {m p : ℕ} (at : ℕ) → Context Σ Γ → Plain t →
       (infer Σ Γ at t ≡ refused m p) ↔ ((i : ℕ) × Faults Σ Γ t m i × (p ≡ at + i))
+  -- the place of a refusal is that of a node, of any term
+  pub places : (t : Term) (Γ : List Term) (at : ℕ) {m p : ℕ} → infer Σ Γ at t ≡ refused m p → Fault at t p
   -- tests 6 to 12 pass exactly for words of a term that passes, and refuse exactly by a row of the relation; as a
   -- statement's proposition too
   pub term-passes : (ws : List ℕ) (t A : Term) → (check-term Σ ws ≡ ok (record { term = t; type = A })) ↔ Passes Σ ws t A
@@ -48,8 +54,9 @@ pub record Metatheory (Σ : List Term) : Type 0 where
   -- every derived type is KindP, KindT, or has a sort itself; whether it is a proposition is seen by looking at it
   pub regular : {Γ : List Term} {t A : Term} → Context Σ Γ → Has Σ Γ t A → (A ≡ KindP) ⊎ ((A ≡ KindT) ⊎ ((s : Term) × Has Σ Γ A s × Sort s))
   pub propositions : {Γ : List Term} {t A : Term} → Context Σ Γ → Has Σ Γ t A → Has Σ Γ A P ↔ (proposition A ≡ true)
-  -- a binder more, a binder filled, and an unused binder less
-  pub weaken : {Γ : List Term} {t A : Term} (d : Term) → Has Σ Γ t A → Has Σ (d ∷ Γ) (raise 1 t) (raise 1 A)
+  -- a binder more, also behind others; a binder filled; and an unused binder less
+  pub weaken : {t A : Term} (Θ Γ : List Term) (d : Term) → Has Σ (Θ ++ Γ) t A →
+      Has Σ (entries (λ k. shift k (pos 1)) Θ ++ (d ∷ Γ)) (shift (length Θ) (pos 1) t) (shift (length Θ) (pos 1) A)
   pub substitute : {Γ : List Term} {t A e d : Term} → Has Σ (d ∷ Γ) t A → Has Σ Γ e d → Has Σ Γ (fill t e) (fill A e)
   pub strengthen : {Γ : List Term} {t A d : Term} → Has Σ (d ∷ Γ) t A → occurs 0 t ≡ 0 → (occurs 0 A ≡ 0) × Has Σ Γ (lower t) (lower A)
   -- a step of reduction keeps the type, and so do constants added to the signature

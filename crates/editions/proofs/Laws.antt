@@ -27,7 +27,8 @@ use Rattle.editions.proofs.Words.{encode-size′, erased-counted, count
 use Rattle.editions.proofs.Editions.{edition-term-right}
 use Rattle.editions.proofs.Means.{convert-means, means-size}
 use Rattle.editions.proofs.Binders.{one-binder}
-use Rattle.editions.proofs.Unbound.{convert-refused}
+use Rattle.editions.proofs.Malformed.{edition-malformed}
+use Rattle.editions.proofs.Unbound.{convert-refused, convert-bound}
 use Rattle.editions.proofs.Refuses.{converted-is}
 use Rattle.editions.proofs.Same.{few, kept, well-formed, same-term}
 use Rattle.editions.proofs.Back.{closed, back, named-by-count, typed-closed}
@@ -103,6 +104,9 @@ checked Σ sig ws c room e l =
 
 pub laws : Laws
 laws = record {
+  reads = edition-term-right;
+  malformed-at = edition-malformed;
+  all-bound = convert-bound;
   one-binder = λ h g. one-binder h g refl;
   first-unbound = convert-refused;
   kept = λ e ws s t w h. kept e s t (w .plain) (few w) h;

@@ -2,25 +2,32 @@
 use Prim.Native.Nat.{ℕ, _≤_}
 use mathlib.Core.Path.{_≡_}
 use mathlib.Core.Logic.{_↔_}
-use mathlib.Core.List.{List, []}
+use mathlib.Core.List.{List, [], map}
 use lib.ListN.{length}
 use Rattle.logic.specs.Limits.{most-words, most-nesting}
-use Rattle.logic.specs.Refusals.{unbound}
+use Rattle.logic.specs.Refusals.{malformed, unbound}
 use Rattle.logic.specs.Result.{ok, refused, _>>=_}
 use Rattle.logic.specs.Term.{Term}
+use Rattle.logic.specs.Reading.{read-whole}
 use Rattle.logic.specs.Scope.{Signature}
 use Rattle.logic.specs.Check.{WordsOf, Checked, check-term}
 use Rattle.editions.specs.Named.{Named, encode′, counted}
-use Rattle.editions.specs.Edition.{other, WordsOf′}
+use Rattle.editions.specs.Edition.{other, unnamed, Malformed′, WordsOf′, edition-term}
 use Rattle.editions.specs.Convert.{convert, unname, name, Closed, from-named, to-named}
 use Rattle.editions.specs.Binders.{BinderAt, FirstUnbound, NamedByCount, OnlyNames, Preserved}
+use Rattle.editions.specs.Refuses.{AllBound}
 use Rattle.editions.specs.declared.Edition.{Edition}
 use Rattle.editions.specs.declared.Edition.the-variants.{Counts, Names}
 
 pub record Laws : Type 0 where
+  -- "Either kind passes 6 to 8 first": exactly words of a term of the edition within the limits do; the place of
+  -- malformed words
+  pub reads : (e : Edition) (ws : List ℕ) (s : Named) → (edition-term e ws ≡ ok s) ↔ WordsOf′ e ws s
+  pub malformed-at : (e : Edition) (ws : List ℕ) (m p : ℕ) → (read-whole (map (unnamed e) ws) ≡ refused m p) ↔ ((m ≡ malformed) × Malformed′ e ws p)
   -- a variable has one binder at most, and a term converts unless one has none: "The first unbound name or variable is
   -- 24 at its word"
   pub one-binder : {e : Edition} {i j k : ℕ} {s : Named} → BinderAt e i j s → BinderAt e i k s → j ≡ k
+  pub all-bound : (e : Edition) (s : Named) → ((t : Named) × (convert e [] 0 s ≡ ok t)) ↔ AllBound e s
   pub first-unbound : (e : Edition) (s : Named) (m p : ℕ) → (convert e [] 0 s ≡ refused m p) ↔ ((m ≡ unbound) × FirstUnbound e s p)
   -- conversion keeps all but names and counts, either way
   pub kept : (e : Edition) (ws : List ℕ) (s t : Named) → WordsOf′ e ws s → convert e [] 0 s ≡ ok t → Preserved e s t

@@ -6,10 +6,10 @@ use Rattle.logic.specs.Move.{shift, fill-at, occurs}
 use Rattle.logic.specs.Reading.{read, too-deep, first-miss}
 use Rattle.logic.specs.Infer.{infer, same-term, conclusion}
 use Rattle.logic.specs.SignatureList.{constants, operations}
+use Rattle.logic.specs.Worked.{listed}
 use Rattle.register.specs.Records.{records, words-of, statements-from, some-of, same-words}
 use Rattle.register.specs.Calls.{opening}
 use Rattle.register.specs.History.{request-refused, run}
-use Rattle.register.specs.Worked.{listed}
 use Rattle.homes.specs.Homes.{rising, rows, formed, survey-code, joined}
 use Rattle.extract.specs.Extract.{extract-call}
 use Rattle.extract.specs.Desk.{desk-run, desk-answers, as-requests, NoDeskRefusal}

@@ -6,10 +6,11 @@ use Rattle.logic.specs.Move.{shift, fill-at, occurs}
 use Rattle.logic.specs.Reading.{read, too-deep, first-miss}
 use Rattle.logic.specs.Infer.{infer, same-term, conclusion}
 use Rattle.logic.specs.SignatureList.{constants}
+use Rattle.logic.specs.Worked.{listed}
 use Rattle.logic.specs.Sentences.{longer-proof, properties, Sentences}
 
 pub sentences : Sentences
-unfolding infer same-term conclusion read too-deep first-miss shift fill-at occurs size encode ℕ-discrete constants longer-proof properties
+unfolding infer same-term conclusion read too-deep first-miss shift fill-at occurs size encode ℕ-discrete constants listed longer-proof properties
 sentences = record {
   prop = refl;
   type = refl;

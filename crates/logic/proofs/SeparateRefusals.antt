@@ -18,6 +18,7 @@ use Rattle.logic.specs.Reading.{Plain, read, too-deep}
 use Rattle.logic.specs.SignatureList.{constants}
 use Rattle.logic.specs.SeparateRefusals.{Separate, separate-function, separate-argument, separate-escape, Subterm, itself, under-sign}
 use Rattle.logic.specs.SeparateRefusals.{under-first, under-says, under-pi, under-lam}
+use Rattle.logic.specs.Worked.{listed}
 use Rattle.logic.specs.SeparateRefusals.{under-app, under-ret, under-bind, SeparateAt, SeparateRefusals, SeparateExamples}
 use Rattle.logic.proofs.Completeness.{infer-right}
 use Rattle.logic.proofs.Faults.{refuses, infer-refused}
@@ -98,7 +99,7 @@ module _ (Σ : List Term) where
             go {i} q (inr (Δ, s, u, b)) = inr (record { index = i; place = q; scope = Δ; which = s; stands = u; broken = b })
 
 pub separate-examples : SeparateExamples
-unfolding infer same-term conclusion constants read too-deep shift fill-at occurs size encode ℕ-discrete
+unfolding infer same-term conclusion constants read too-deep shift fill-at occurs size encode ℕ-discrete listed
 separate-examples = record {
   function-within = refl;
   argument-within = refl;

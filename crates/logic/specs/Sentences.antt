@@ -4,14 +4,14 @@
 use Prim.Native.Nat.{ℕ, zero, suc}
 use mathlib.Core.Path.{_≡_}
 use mathlib.Core.Bool.{cond}
-use mathlib.Core.List.{List, [], _∷_, _++_}
+use mathlib.Core.List.{[], _∷_, _++_}
 use mathlib.Core.Option.{Option, some, none}
 use lib.Dec.{eqb}
 use Rattle.logic.specs.Result.{ok, refused}
 use Rattle.logic.specs.Term.{Term, var, sign, P, T′, S, N, KindP, KindT, Const, Text, Name, Says, Pi, Lam, App, Ret, Bind, size, encode}
 use Rattle.logic.specs.Reading.{Miss, first-miss}
 use Rattle.logic.specs.SignatureList.{signature}
-use Rattle.logic.specs.Worked.{sample, consent}
+use Rattle.logic.specs.Worked.{sample, listed, consent}
 use Rattle.logic.specs.Order.{answer-to}
 
 infixl 5 _has-type_
@@ -52,21 +52,12 @@ long-within =
     Pi consent (Pi (Pi consent (properties 5 0)) (Pi (Pi consent (Pi (properties 5 0) P))
     (App (App (var 0) (longer-proof 7 (var 2))) (App (var 1) (longer-proof 7 (var 2))))))
 
--- a search in which only Signs of principal 3 are refused, with 14
-abbrev pub first-of-three : Term → Option Miss
-first-of-three t = first-miss (λ n q. cond (eqb n 3) (some 14) none) 0 t
+-- the first Sign of principal 3, where these are refused with 14 and no others are
+abbrev pub first-by-3 : Term → Option Miss
+first-by-3 t = first-miss (λ n q. cond (eqb n 3) (some 14) none) 0 t
 
-abbrev pub missed-at : ℕ → Option Miss
-missed-at place = some (record { number = 14; place = place })
-
--- a constant's type with its length word before it
-abbrev pub with-length : Term → List ℕ
-with-length A = size A ∷ encode A
-
--- the sample, C0 to C3: 20 words
-abbrev pub listed-sample : List ℕ
-listed-sample =
-    with-length (Pi S P) ++ with-length (Pi S (Pi S P)) ++ with-length (Pi S P) ++ with-length (Pi consent P)
+abbrev pub refused-sign : (place : ℕ) → Option Miss
+refused-sign place = some (record { number = 14; place = place })
 
 pub record Sentences : Type 0 where
   -- "P : KindP. T : KindT. S : T. N : T. sn : S. an : N."
@@ -136,14 +127,14 @@ pub record Sentences : Type 0 where
   pub long-node : answer-to sample (encode long-within) ≡ refused 12 63
   pub long-node-signed : answer-to sample (encode (sign 3 long-within)) ≡ refused 12 64
   pub long-node-said : answer-to sample (encode (Says (Name 3) long-within)) ≡ refused 12 65
-  pub long-node-constant : signature (listed-sample ++ with-length (Pi long-within P)) ≡ refused 4 20
+  pub long-node-constant : signature (listed (sample ++ (Pi long-within P ∷ []))) ≡ refused 4 20
   -- "a type that passes the check with type KindP under the constants before it": not itself, and not one behind it
-  pub constant-before : signature (listed-sample ++ with-length (Pi (App (Const 2) (Text 7)) P)) ≡ ok (sample ++ (Pi consent P ∷ []))
-  pub constant-itself : signature (listed-sample ++ with-length (Pi (Const 4) P)) ≡ refused 4 20
-  pub constant-behind : signature (listed-sample ++ with-length (Pi (App (Const 5) (Text 7)) P) ++ with-length (Pi S P)) ≡ refused 4 20
+  pub constant-before : signature (listed (sample ++ (Pi consent P ∷ []))) ≡ ok (sample ++ (Pi consent P ∷ []))
+  pub constant-itself : signature (listed (sample ++ (Pi (Const 4) P ∷ []))) ≡ refused 4 20
+  pub constant-behind : signature (listed (sample ++ (Pi (App (Const 5) (Text 7)) P ∷ Pi S P ∷ []))) ≡ refused 4 20
   -- of the Signs, "one nested in a proposition or a domain counts too", and 14's place is the "first such Sign"
-  pub missed-in-domain : first-of-three (Pi (App (var 0) (sign 3 consent)) P) ≡ missed-at 3
-  pub missed-in-proposition : first-of-three (sign 4 (App (var 0) (sign 3 consent))) ≡ missed-at 3
-  pub missed-in-principal : first-of-three (Says (App (var 0) (sign 3 consent)) P) ≡ missed-at 3
-  pub missed-first : first-of-three (App (sign 4 consent) (App (sign 3 consent) (sign 3 P))) ≡ missed-at 6
-  pub none-missed : first-of-three (App (sign 4 consent) (sign 5 consent)) ≡ none
+  pub missed-in-domain : first-by-3 (Pi (App (var 0) (sign 3 consent)) P) ≡ refused-sign 3
+  pub missed-in-proposition : first-by-3 (sign 4 (App (var 0) (sign 3 consent))) ≡ refused-sign 3
+  pub missed-in-principal : first-by-3 (Says (App (var 0) (sign 3 consent)) P) ≡ refused-sign 3
+  pub missed-first : first-by-3 (App (sign 4 consent) (App (sign 3 consent) (sign 3 P))) ≡ refused-sign 6
+  pub none-missed : first-by-3 (App (sign 4 consent) (sign 5 consent)) ≡ none

@@ -14,9 +14,9 @@ use Rattle.logic.specs.Faults.{HasMeasured}
 use Rattle.logic.specs.Infer.{infer}
 use Rattle.logic.specs.Reading.{Plain}
 use Rattle.logic.specs.SignatureList.{signature}
-use Rattle.logic.specs.Worked.{consent, checked-words}
+use Rattle.logic.specs.Worked.{listed, consent, checked-words}
 use Rattle.logic.specs.Order.{answer-to}
-use Rattle.logic.specs.Sentences.{of-consent, with-length}
+use Rattle.logic.specs.Sentences.{of-consent}
 
 -- Separate Σ Γ t m: the term t, in the scope Γ, breaks the condition with the number m
 pub data Separate (Σ Γ : List Term) : Term → ℕ → Type 0 where
@@ -76,7 +76,7 @@ pub record SeparateExamples : Type 0 where
   pub escape-within : checked-words (Lam P (Bind (sign 3 consent) (Ret (Name 3) of-consent))) ≡ refused 20 2
   pub by-other-within : checked-words (Lam P (Bind (sign 3 consent) (Ret (Name 4) of-consent))) ≡ refused 11 2
   -- a constant's type that breaks one is 4, at its length word
-  pub function-constant : signature (with-length (App (Text 7) (Text 7))) ≡ refused 4 0
-  pub argument-constant : signature (with-length (Pi S P) ++ with-length (App (Const 0) (Name 3))) ≡ refused 4 4
+  pub function-constant : signature (listed (App (Text 7) (Text 7) ∷ [])) ≡ refused 4 0
+  pub argument-constant : signature (listed (Pi S P ∷ App (Const 0) (Name 3) ∷ [])) ≡ refused 4 4
   pub escape : answer-to (P ∷ Pi (Const 0) P ∷ []) (encode escaping) ≡ refused 20 0
-  pub escape-constant : signature (with-length P ++ with-length (Pi (Const 0) P) ++ with-length escaping) ≡ refused 4 6
+  pub escape-constant : signature (listed (P ∷ Pi (Const 0) P ∷ escaping ∷ [])) ≡ refused 4 6

@@ -7,12 +7,12 @@ use Rattle.logic.specs.Move.{shift, fill-at, occurs}
 use Rattle.logic.specs.Reading.{read, too-deep, first-miss}
 use Rattle.logic.specs.Infer.{infer, same-term, conclusion}
 use Rattle.logic.specs.SignatureList.{constants, operations}
+use Rattle.logic.specs.Worked.{listed}
 use Rattle.register.specs.Records.{records, words-of, statements-from, same-words, some-of}
 use Rattle.register.specs.Calls.{opening}
 use Rattle.register.specs.Batch.{item-list, asks, in-turn, after-requests, all-entries, granted-words}
 use Rattle.register.specs.BatchTests.{items-own}
 use Rattle.register.specs.History.{run, answers, read-off, added-words, grants, days, singles, single-answers, NoBatch}
-use Rattle.register.specs.Worked.{listed}
 use Rattle.register.specs.BatchGuards.{times, BatchGuards}
 
 pub batch-guards : BatchGuards

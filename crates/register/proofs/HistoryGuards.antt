@@ -1,4 +1,4 @@
--- Lists of calls by literals, by computation.
+-- Lists of calls by literals: by computation, and relations by their constructors.
 use Prim.Native.Nat.{ℕ, _<_}
 use mathlib.Core.Path.{_≡_, refl, sym, subst}
 use mathlib.Core.List.{[], _∷_, List·Memᴰ·head, List·Memᴰ·eq-of-singleton}
@@ -10,7 +10,7 @@ use Rattle.logic.specs.Result.{ok}
 use Rattle.logic.specs.Move.{shift, fill-at, occurs}
 use Rattle.logic.specs.Reading.{read, read-whole, too-deep, first-miss, SubtermAt, root, in-sign, in-first, in-second, Embedded}
 use Rattle.logic.specs.Infer.{infer, same-term, conclusion}
-use Rattle.logic.specs.Worked.{sample, consent}
+use Rattle.logic.specs.Worked.{sample, listed, consent}
 use Rattle.logic.specs.SignatureList.{constants, operations}
 use Rattle.logic.proofs.Results.{ok-inj}
 use Rattle.logic.proofs.Check.{check-term-right}
@@ -22,7 +22,7 @@ use Rattle.register.specs.Batch.{item-list, asks, in-turn, after-request
 use Rattle.register.specs.Lapse.{HeldBefore}
 use Rattle.register.specs.Verdict.{both-broken, both-whole, SameSigns, SameForAll}
 use Rattle.register.specs.History.{lent, request-refused, NoRefusal, OneDay, run, replies}
-use Rattle.register.specs.Worked.{listed, setting}
+use Rattle.register.specs.Worked.{setting}
 use Rattle.register.specs.HistoryGuards.{other-consent, both-consents, consents, consents-content, HistoryGuards}
 use Rattle.register.proofs.Shared.{made-ready}
 

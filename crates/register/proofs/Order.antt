@@ -7,9 +7,9 @@ use Rattle.logic.specs.Reading.{read, too-deep, first-miss}
 use Rattle.logic.specs.Infer.{infer, same-term, conclusion}
 use Rattle.logic.specs.SignatureList.{constants, operations}
 use Rattle.logic.specs.Order.{within-signs}
+use Rattle.logic.specs.Worked.{listed}
 use Rattle.register.specs.Records.{records, words-of, statements-from, same-words, some-of}
 use Rattle.register.specs.Calls.{opening}
-use Rattle.register.specs.Worked.{listed}
 use Rattle.register.specs.Order.{CallOrder}
 
 pub call-order : CallOrder

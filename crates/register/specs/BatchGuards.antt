@@ -6,16 +6,17 @@ use mathlib.Core.Bool.{true}
 use mathlib.Core.List.{List, [], _∷_, _++_}
 use lib.ListN.{replicate}
 use Rattle.logic.specs.Result.{ok}
-use Rattle.logic.specs.Term.{Term, sign, P, S, Const, Text, Pi, App, Bind, encode}
-use Rattle.logic.specs.Worked.{sample, consent, p}
+use Rattle.logic.specs.Term.{Term, sign, Const, Text, App, Bind, encode}
+use Rattle.logic.specs.Worked.{sample, listed, consent, p}
 use Rattle.register.specs.Records.{Record, Content, ask-of, used, latest}
 use Rattle.register.specs.Calls.{Lent}
 use Rattle.register.specs.Batch.{items, Batched, all-granted, refused-at, batch-call, batch-leaves, SomeItems}
 use Rattle.register.specs.BatchTests.{batch-once}
 use Rattle.register.specs.History.{Call, request, batch, said, requested, batched, run, answers, read-off, added-words, grants, days, singles}
 use Rattle.register.specs.History.{single-answers, NoBatch}
-use Rattle.register.specs.Worked.{listed, setting, opened-sample, say-consent, request-extract, receipt-proved, receipt-sign}
-use Rattle.register.specs.Order.{with-lent, lends, constant-of-none, short-register, broken-register, empty-register}
+use Rattle.register.specs.Worked.{setting, opened-sample, say-consent, request-extract, receipt-proved, receipt-sign}
+use Rattle.register.specs.Order.{with-lent, lends, constant-of-none, short-register, broken-register, empty-register, permit-type, receipt-type}
+use Rattle.register.specs.Order.{of-operations}
 
 -- ---- proofs of the permission of operation 0 for the extract 7
 
@@ -87,7 +88,7 @@ left-by-batch free ws = batch-leaves lends (ruled free) 15 ws
 -- ---- two operations: 1 has the permit C2 and the receipt C3
 
 abbrev pub lends-two : Lent
-lends-two = with-lent 12288 (listed (Pi S P ∷ Pi S (Pi S P) ∷ Pi S P ∷ Pi S (Pi S P) ∷ [])) 2
+lends-two = of-operations permit-type receipt-type permit-type receipt-type
 
 -- the rules of both, a register of these with room for a request of each, and what the requests leave
 abbrev pub two-rules : List ℕ
@@ -107,7 +108,7 @@ with-two = 55 ∷ 6 ∷ 15 ∷ two-rules ++ first-records ++ (3 ∷ 8 ∷ 1 ∷ 
 
 -- the sample's first constant, and one of no words behind it, at word 4
 abbrev pub second-bad : List ℕ
-second-bad = 3 ∷ encode (Pi S P) ++ (0 ∷ [])
+second-bad = listed (permit-type ∷ []) ++ (0 ∷ [])
 
 -- two constants of a type
 abbrev pub twice : Term → List ℕ
@@ -196,8 +197,8 @@ pub record BatchGuards : Type 0 where
   pub none-3 : batch-call (with-lent 12288 second-bad 0) broken-register 4 [] ≡ refused-at 0 3 0
   pub none-4 : batch-call (with-lent 12288 second-bad 0) empty-register 4 [] ≡ refused-at 0 4 4
   pub none-5 : batch-call (with-lent 12288 (listed sample) 0) empty-register 4 [] ≡ refused-at 0 5 0
-  pub none-5-permit : batch-call (with-lent 12288 (twice (Pi S (Pi S P))) 1) empty-register 4 [] ≡ refused-at 0 5 0
-  pub none-5-receipt : batch-call (with-lent 12288 (twice (Pi S P)) 1) empty-register 4 [] ≡ refused-at 0 5 0
+  pub none-5-permit : batch-call (with-lent 12288 (twice receipt-type) 1) empty-register 4 [] ≡ refused-at 0 5 0
+  pub none-5-receipt : batch-call (with-lent 12288 (twice permit-type) 1) empty-register 4 [] ≡ refused-at 0 5 0
   pub none-23 : batch-call lends empty-register 4 [] ≡ refused-at 0 23 0
   -- so a first request
   pub first-4 : batch-call (with-lent 12288 second-bad 0) empty-register 4 both-items ≡ refused-at 0 4 4

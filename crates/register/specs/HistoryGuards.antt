@@ -1,7 +1,7 @@
 -- Lists of calls by literals: the words behind the records that calls leave, what later calls see, which lists have a
--- refusal and are of one day, and what a verdict does not depend on. The theorems on lists of calls speak by these
--- definitions, and no contract cites most of them; here they are met by registers and calls that are written out.
--- proofs/HistoryGuards computes them.
+-- refusal and are of one day, what a verdict does not depend on, and where a first Sign is not held. The theorems on
+-- lists of calls, on verdicts and on what lapses speak by these definitions, and no contract cites most of them; here
+-- they are met by registers and calls that are written out. proofs/HistoryGuards computes them.
 use Prim.Native.Nat.{ℕ}
 use mathlib.Core.Path.{_≡_}
 use mathlib.Core.Bool.{true, false}
@@ -9,13 +9,13 @@ use mathlib.Core.List.{List, [], _∷_, _++_}
 use lib.ListN.{replicate}
 use Rattle.logic.specs.Result.{ok, refused}
 use Rattle.logic.specs.Term.{Term, sign, P, Const, Text, Name, Says, App, Bind, encode}
-use Rattle.logic.specs.Worked.{sample, consent}
+use Rattle.logic.specs.Worked.{sample, listed, consent}
 use Rattle.register.specs.Records.{Statement, Ask, Content, statement-of, ask-of}
 use Rattle.register.specs.Calls.{check-call, open-call, after-open, say-call, after-say, request-call, after-request}
 use Rattle.register.specs.Verdict.{Alike, SameSigns, SameDay, SameStatement, SameForAll}
 use Rattle.register.specs.Lapse.{HeldBefore}
 use Rattle.register.specs.History.{Setting, lent, Call, batch, said, requested, checked, NoRefusal, OneDay, Later, call, check, replies}
-use Rattle.register.specs.Worked.{listed, setting, opened-sample, say-from, say-consent, request-on, request-extract, receipt-proved}
+use Rattle.register.specs.Worked.{setting, opened-sample, say-from, say-consent, request-on, request-extract, receipt-proved}
 use Rattle.register.specs.BatchGuards.{permitted, desk-permits, worked-batch}
 
 -- a check of what a3 said, on a day

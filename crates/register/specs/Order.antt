@@ -6,12 +6,11 @@ use mathlib.Core.List.{List, [], _∷_, _++_}
 use lib.ListN.{replicate}
 use Rattle.logic.specs.Result.{refused}
 use Rattle.logic.specs.Term.{Term, var, sign, P, S, Const, Text, Name, Says, Pi, App, Ret, Bind, size, encode}
-use Rattle.logic.specs.Worked.{sample, consent, rule, p}
+use Rattle.logic.specs.Worked.{sample, listed, consent, rule, p}
 use Rattle.logic.specs.Order.{within-signs}
 use Rattle.logic.specs.Sentences.{of-consent}
 use Rattle.register.specs.Records.{statement-of, ask-of}
 use Rattle.register.specs.Calls.{Lent, check-call, request-call, say-call, open-call, read-call}
-use Rattle.register.specs.Worked.{listed}
 
 -- what is lent beside a register: a workspace, a signature list, n
 abbrev pub with-lent : ℕ → List ℕ → ℕ → Lent

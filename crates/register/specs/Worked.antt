@@ -6,16 +6,11 @@ use mathlib.Core.List.{List, [], _∷_, _++_}
 use lib.ListN.{replicate}
 use Rattle.logic.specs.Result.{Result, ok, refused}
 use Rattle.logic.specs.Term.{Term, sign, Const, Text, Name, App, Says, size, encode}
-use Rattle.logic.specs.Worked.{sample, consent, rule, p}
+use Rattle.logic.specs.Worked.{sample, listed, consent, rule, p}
 use Rattle.logic.specs.SignatureList.{signature}
 use Rattle.register.specs.Records.{Record, Ask, Content, statement-of, ask-of, grant, receipt, used, count, latest, register-content, written}
 use Rattle.register.specs.Calls.{open-call, after-open, check-call}
 use Rattle.register.specs.History.{Setting, lent, Call, say, request, Reply, said, requested, run, answers}
-
--- a length word and a type for each constant
-unfoldable pub listed : List Term → List ℕ
-listed [] = []
-listed (A ∷ As) = size A ∷ (encode A ++ listed As)
 
 abbrev pub setting : Setting
 setting = record { sig = listed sample; n = 1 }

@@ -1,0 +1,15 @@
+-- The bounds of refusals, each proved in its crate.
+use Rattle.register.proofs.Bounds.{check-bound, say-bound, request-bound, batch-bound, open-bound, read-bound}
+use Rattle.editions.proofs.Refuses.{converted-bound}
+use Rattle.demands.specs.Bounds.{Bounds}
+
+pub bounds : Bounds
+bounds = record {
+  checks = check-bound;
+  says = say-bound;
+  requests = request-bound;
+  batches = batch-bound;
+  opens = open-bound;
+  reads = read-bound;
+  converts = converted-bound;
+}

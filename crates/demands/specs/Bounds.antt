@@ -1,0 +1,30 @@
+-- Every refusal has one of the documents' numbers, and a place within what was lent.
+use Prim.Native.Nat.{ℕ, _+_, _≤_, _<_}
+use mathlib.Core.Path.{_≡_}
+use mathlib.Core.Logic.{_≢_}
+use mathlib.Core.List.{List}
+use lib.ListN.{length}
+use Rattle.logic.specs.Result.{refused}
+use Rattle.register.specs.Records.{Statement, Ask}
+use Rattle.register.specs.Calls.{Lent, check-call, say-call, request-call, open-call, read-call}
+use Rattle.register.specs.Batch.{refused-at, batch-call}
+use Rattle.editions.specs.Convert.{converted}
+use Rattle.editions.specs.declared.Edition.{Edition}
+
+-- of a call on the register: 21 is the extract desk's alone, 24 and 25 are the converters'
+abbrev pub CallNumber : ℕ → Type 0
+CallNumber m = (1 ≤ m) × (m ≤ 23) × (m ≢ 21)
+
+pub record Bounds : Type 0 where
+  pub checks : (l : Lent) (reg : List ℕ) (day : ℕ) (ws : List ℕ) {m p : ℕ} → check-call l reg day ws ≡ refused m p →
+      CallNumber m × (p ≤ length (l .sig) + length ws)
+  pub says : (l : Lent) (reg : List ℕ) (day : ℕ) (st : Statement) {m p : ℕ} → say-call l reg day st ≡ refused m p →
+      CallNumber m × (p ≤ length (l .sig) + length (st .words))
+  pub requests : (l : Lent) (reg : List ℕ) (k : Ask) {m p : ℕ} → request-call l reg k ≡ refused m p →
+      CallNumber m × (p ≤ length (l .sig) + length (k .proof))
+  pub batches : (l : Lent) (reg : List ℕ) (day : ℕ) (ws : List ℕ) {i m p : ℕ} → batch-call l reg day ws ≡ refused-at i m p →
+      (i < 16) × CallNumber m × (p ≤ length (l .sig) + length ws)
+  pub opens : (l : Lent) (reg rules : List ℕ) {m p : ℕ} → open-call l reg rules ≡ refused m p →
+      CallNumber m × (p ≤ length (l .sig) + length rules)
+  pub reads : (reg : List ℕ) (k : ℕ) {m p : ℕ} → read-call reg k ≡ refused m p → CallNumber m × (p ≡ 0)
+  pub converts : (e : Edition) (ws : List ℕ) (room m p : ℕ) → converted e ws room ≡ refused m p → (m ≤ 25) × (p ≤ length ws)
