@@ -1,5 +1,5 @@
 // Document 01's worked register, with days, by the calls of include/aura0.h: prints what each call answers, and lists
-// the records. Then a batch of two requests, and p in the edition with named variables.
+// the records. Then a batch of two requests, p in the edition with named variables, and the uses of p's binder.
 #include <stdio.h>
 #include "sample.h"
 
@@ -115,6 +115,20 @@ static void convert(void)
     print_words("written", back, written);
 }
 
+// The body of p stands behind the word Bind and r, which has 14 words. Counted from 0 on and from 1 on, the two differ by
+// the uses of p's binder. Then p itself, and p without its last word.
+static void uses(void)
+{
+    const uint32_t *body = proof + 15;
+    size_t body_words = WORDS(proof) - 15, from_0, from_1;
+    print("the body from 0", aura0_uses(body, body_words, 0, &from_0));
+    print("the body from 1", aura0_uses(body, body_words, 1, &from_1));
+    printf("free %zu and %zu\n", from_0, from_1);
+    print("p from 0", aura0_uses(LIST(proof), 0, &from_0));
+    print("26 words of p from 0", aura0_uses(proof, WORDS(proof) - 1, 0, &from_1));
+    printf("free %zu and %zu\n", from_0, from_1);
+}
+
 int main(void)
 {
     // a request with p, and one whose proof uses the receipt of the first, in this order and in the other
@@ -153,5 +167,6 @@ int main(void)
     batch(one, 117, LIST(in_turn));
 
     convert();
+    uses();
     return 0;
 }

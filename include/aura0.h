@@ -1,5 +1,5 @@
-// The calls of the permission register, and the converters of the edition with named variables, for programs in C. The
-// library is target/staticlib/libhost.a; `bash host/run` builds it.
+// The calls of the permission register, the converters of the edition with named variables, and a count of free
+// variables, for programs in C. The library is target/staticlib/libhost.a; `bash host/run` builds it.
 //
 // Each list of 32-bit words is lent as a pointer and a number of words; the pointer is not null, also where the
 // number is 0. Buffers that are written must not overlap any other buffer of the call.
@@ -139,6 +139,14 @@ uint64_t aura0_to_named(const uint32_t *term, size_t term_words, uint32_t *outpu
 
 // Converts names into document 01's words.
 uint64_t aura0_from_named(const uint32_t *term, size_t term_words, uint32_t *output, size_t output_words, size_t *written);
+
+// For audit work, on a term in document 01's words, without a register and a workspace: the tests 6 to 8, then *count is
+// how many variables stand free in the term that are numbered `from` or more, each as often as it stands; 0 where
+// refused. A variable that has its binder in the term is not free, and under each binder passed a free one's number
+// counts one less. Inside a Sign none is counted. Where `from` is over 16777215 the count is 0.
+// Of a body, the second child of a Pi, a Lam or a Bind, lent as a term of its own, the count from 0 on less the count
+// from 1 on is how often it uses its binder.
+uint64_t aura0_uses(const uint32_t *term, size_t term_words, uint32_t from, size_t *count);
 
 // Reads a record: its kind, and its body as the *words words of the register from *start on; all three are 0 where
 // refused.

@@ -14,7 +14,7 @@
 #include "../include/aura0.h"
 
 // the level in force: requests 1 to LEVEL of document 02 (request 4 changed no answer, so it has no level of its own)
-enum { LEVEL = 7, MOST = 1 << 21, GUARD = 16, PATTERN = 0x5a5a5a5a };
+enum { LEVEL = 8, MOST = 1 << 21, GUARD = 16, PATTERN = 0x5a5a5a5a };
 
 // a lent list of words, with a guard behind it, and what it held before the call
 struct lent {
@@ -282,6 +282,13 @@ static int call(const char *line)
         convert("tonamed", aura0_to_named, rest);
     } else if ((rest = after(line, "fromnamed")) != NULL) {
         convert("fromnamed", aura0_from_named, rest);
+    } else if ((rest = after(line, "uses")) != NULL) {
+        uint32_t from = read_number(&rest, UINT32_MAX);
+        size_t count = PATTERN;
+        lend(0, rest);
+        uint64_t code = aura0_uses(LENT(term), from, &count);
+        take_back(NOTHING);
+        put("uses %u %u %zu", aura0_number(code), aura0_place(code), count);
     } else if ((rest = after(line, "check")) != NULL) {
         size_t words = read_number(&rest, MOST), type_words = PATTERN;
         uint32_t day = read_number(&rest, UINT32_MAX);

@@ -6,12 +6,11 @@ use mathlib.Core.Path.{_≡_, refl, sym, ap, ap₂, subst, _∙_}
 use mathlib.Core.Logic.{inl, inr}
 use mathlib.Core.Bool.{Bool, true, false, not, cond}
 use mathlib.Core.List.{List, _∷_, _++_, append-assoc, tail-eq-of-cons-eq}
-use mathlib.Core.Option.{Option, some, none}
 use lib.Dec.{ltb, eqb}
 use lib.IntN.{pos, negsuc}
 use lib.Seq.{drop-drop, take-at, getD-drop}
 use lib.ListN.{length, take, drop, getD, take-append-drop, length-append, length-drop}
-use borrow.Author.Tests.{eq-eqb}
+use borrow.Author.Tests.{eq-eqb, ne-eqb}
 use Rattle.logic.specs.Limits.{payloads, most-type-words}
 use Rattle.logic.specs.Refusals.{condition-fails, variable-escapes}
 use Rattle.logic.specs.Result.{Result, refused, _>>_, require}
@@ -23,23 +22,23 @@ use Rattle.logic.specs.Infer.{measured}
 use Rattle.logic.proofs.Basics.{clash}
 use Rattle.logic.proofs.Results.{pass}
 use Rattle.logic.proofs.Stopped.{fail}
-use Rattle.logic.proofs.Free.{lower-raise}
+use Rattle.logic.proofs.Free.{occurs-raise, lower-raise}
+use Rattle.logic.proofs.FreeVariables.{free-occurs}
 use Rattle.logic.proofs.Proposition.{same-yes, same-no}
 use Rattle.logic.proofs.Words.{head, shape-first, plain-in-range, prefix-free, size-pos, node-plain}
 use Rattle.words.specs.Place.{At, written-at}
 use Rattle.words.specs.Typed.{TypeAt}
 use Rattle.moves.specs.Shift.{Shifted}
-use Rattle.moves.specs.Occurrence.{absent}
-use Rattle.words.proofs.Places.{words-head, at-right}
+use Rattle.moves.specs.declared.shift.Shift.{Shift}
+use Rattle.words.proofs.Places.{words-head}
 use Rattle.words.proofs.Types.{in-range}
-use Rattle.moves.proofs.Shifts.{size-shift, length-shift}
-use Rattle.moves.proofs.Occurrences.{absent-is, present-is}
+use Rattle.moves.proofs.Shifts.{size-shift, length-shift, zero-shifted}
 use Rattle.rules.specs.Rule.{bind-type}
 use Rattle.rules.specs.Scope.{entry-head}
-use Rattle.rules.specs.Form.{TypeFormed}
+use Rattle.rules.specs.Form.{front-words, TypeFormed}
 use Rattle.bind_result.specs.BindResult.{Binds}
 use Rattle.rules.specs.declared.derivation.Derivation.the-variants.{Typed, Refused}
-use Rattle.rules.proofs.Fronts.{denied, measured-fits, formed-refused, writes}
+use Rattle.rules.proofs.Fronts.{denied, measured-fits, formed-refusal, formed-refused, writes, written-kept}
 
 -- ---- words and terms
 
@@ -144,7 +143,7 @@ module _ (ws : List ℕ) (used at m end : ℕ) (p q B : Term) (j : Binds ws used
   unsaid n = formed-refused _ condition-fails at end ws (bound-unsaid at p B n)
 
   module _ (said : ℕ) (e : said ≡ 1 + size p) where
-    pub said-size : (s : SaidBy p B) → m ≡ said + size (s .right)
+    said-size : (s : SaidBy p B) → m ≡ said + size (s .right)
     unfolding size
     said-size s =
         let z : size (raise 1 p) ≡ size p = size-shift 0 (pos 1) p in
@@ -172,34 +171,48 @@ module _ (ws : List ℕ) (used at m end : ℕ) (p q B : Term) (j : Binds ws used
 
     module _ (agree : take said ws ≡ take (length ws - used + entry-head + said - (length ws - used + entry-head)) (drop (length ws - used + entry-head) ws))
       where
-        pub saying : SaidBy p B
+        saying : SaidBy p B
         saying = said-by ws said p B (j .type) (j .principal) (agree ∙ kept-part)
 
         pub said-at : At ws 0 B
         said-at = record { plain = node-plain (saying .is) (j .type .plain); rest = j .type .rest; words = j .type .words }
 
-        pub right-at : At ws said (saying .right)
-        right-at =
-            let z : size (raise 1 p) ≡ size p = size-shift 0 (pos 1) p in
-            let i : 0 + 1 + size (raise 1 p) ≡ said = omega arith in
-            subst (λ (k : ℕ). At ws k (saying .right)) i (at-right (subst (At ws 0) (saying .is) said-at))
+        -- the principal, which was raised, does not use the binder
+        said-uses : occurs 0 B ≡ occurs 0 (saying .right)
+        unfolding occurs
+        said-uses = let r = occurs-raise 0 p in ap (occurs 0) (saying .is) ∙ omega arith
 
-        module _ (r : Option ℕ) (f : r ≡ absent (said + size (saying .right)) (occurs 0 (saying .right))) where
-          pub bind-present : r ≡ none → TypeFormed (bind-type at p B) end ws ws (Refused variable-escapes at)
-          bind-present t =
-              formed-refused _ variable-escapes at end ws (bound-said at p B saying _ (fail _ at _ (present-is (occurs 0 (saying .right)) _ (sym t ∙ f))))
+        -- the body's type was shifted from 1 on by 0, and then from 0 on by minus 1
+        module _ {mid new : List ℕ} {from-1 from-0 : Shift} (f : Shifted B 1 (pos 0) ws 0 mid from-1) (g : Shifted B 0 (negsuc 0) mid 0 new from-0)
+            (l : m ≤ most-type-words) where
+          -- a shift by 0 leaves the words as they are
+          shifted-words : new ≡ written-at ws 0 (encode (shift 0 (negsuc 0) B))
+          shifted-words = g .words ∙ ap (λ (v : List ℕ). written-at v 0 (encode (shift 0 (negsuc 0) B))) (zero-shifted said-at f)
 
-          pub bind-absent : (k : ℕ) (new : List ℕ) (words : ℕ) → r ≡ some k → m ≤ most-type-words → Shifted B 0 (negsuc 0) ws 0 new words
-              → TypeFormed (bind-type at p B) end ws new (Typed words end)
+          counts : from-0 .free ≡ from-1 .free + occurs 0 (saying .right)
+          counts = let u = free-occurs 0 B in let s = said-uses in omega (arith, f .free-is, g .free-is)
+
+          -- the counts differ: the variable escapes
+          pub bind-used : (from-0 .free ≡ from-1 .free → ⊥) → TypeFormed (bind-type at p B) end ws new (Refused variable-escapes at)
+          bind-used d =
+              let n : length (encode (shift 0 (negsuc 0) B)) ≡ size B = length-shift 0 (negsuc 0) B in
+              let k = j .type-words in
+              let used : occurs 0 (saying .right) ≡ 0 → ⊥ = λ e. let c = counts in d (omega arith) in
+              formed-refusal _ variable-escapes at end ws new
+              (bound-said at p B saying _ (fail _ at _ (ne-eqb (occurs 0 (saying .right)) 0 used)))
+              (written-kept ws new (encode (shift 0 (negsuc 0) B)) 0 front-words (omega arith) shifted-words (omega arith))
+
+          -- they are the same: the type is lowered
+          pub bind-unused : from-0 .free ≡ from-1 .free → TypeFormed (bind-type at p B) end ws new (Typed (from-0 .words) end)
           unfolding shift
-          bind-absent k new words t l h =
+          bind-unused d =
               let low : shift 0 (negsuc 0) B ≡ Says p (lower (saying .right)) = ap lower (saying .is)
               ∙ ap (λ (u : Term). Says u (lower (saying .right))) (lower-raise 0 p) in
               let z : size (Says p (lower (saying .right))) ≡ size B = sym (ap size low) ∙ size-shift 0 (negsuc 0) B in
               let n = j .type-words in
               let small : size (Says p (lower (saying .right))) ≤ most-type-words = omega arith in
-              writes _ (Says p (lower (saying .right))) words end ws ws new
-              (bound-said at p B saying _ (pass variable-escapes at
-              (eq-eqb (occurs 0 (saying .right)) 0 (absent-is (occurs 0 (saying .right)) _ k (sym t ∙ f) .never)) (measured-fits at _ small)))
-              (h .count ∙ sym z) small (inl (subst Plain low (plain-lower 0 B (said-at .plain)))) refl
-              (h .words ∙ ap (λ (u : Term). written-at ws 0 (encode u)) low)
+              let unused : occurs 0 (saying .right) ≡ 0 = let c = counts in omega arith in
+              writes _ (Says p (lower (saying .right))) (from-0 .words) end ws ws new
+              (bound-said at p B saying _ (pass variable-escapes at (eq-eqb (occurs 0 (saying .right)) 0 unused) (measured-fits at _ small)))
+              (g .words-are ∙ sym z) small (inl (subst Plain low (plain-lower 0 B (said-at .plain)))) refl
+              (shifted-words ∙ ap (λ (u : Term). written-at ws 0 (encode u)) low)

@@ -1,8 +1,6 @@
 // The result of a Bind.
 use logic::refusal::CONDITION_FAILS;
 use logic::refusal::VARIABLE_ESCAPES;
-use moves::occurrence::Occurrence;
-use moves::occurrence::occurs;
 use moves::shift::shift_within;
 use parts::same;
 use rules::derivation::Derivation;
@@ -39,17 +37,19 @@ pub fn bind(ws: &mut [u32], used: usize, at: usize, m: usize, end: usize) -> Der
             place: at,
         };
     }
-    let escape = occurs(&ws[..], said, 0);
-    match escape {
-        Occurrence::Present => Derivation::Refused {
+    // "Counted from a body's variable 0 on and from 1 on, the two differ by the uses of its binder"; the principal,
+    // which was raised, has none of them
+    let from_1 = shift_within(ws, 0, 1, 0);
+    // "shifts every free variable up or down by a signed amount": minus 1 after Bind, the principal's too
+    let from_0 = shift_within(ws, 0, 0, -1);
+    if from_0.free != from_1.free {
+        return Derivation::Refused {
             number: VARIABLE_ESCAPES,
             place: at,
-        },
-        Occurrence::Absent(_) => {
-            // "shifts every free variable up or down by a signed amount": minus 1 after
-            // Bind, the principal's too, which was raised
-            let words = shift_within(ws, 0, 0, -1);
-            Derivation::Typed { words, end }
-        }
+        };
+    }
+    Derivation::Typed {
+        words: from_0.words,
+        end,
     }
 }

@@ -1,6 +1,7 @@
 -- The bounds of refusals, each proved in its crate.
 use Rattle.register.proofs.Bounds.{check-bound, say-bound, request-bound, batch-bound, open-bound, read-bound}
 use Rattle.editions.proofs.Refuses.{converted-bound}
+use Rattle.uses.proofs.Demands.{uses-bound}
 use Rattle.demands.specs.Bounds.{Bounds}
 
 pub bounds : Bounds
@@ -12,4 +13,5 @@ bounds = record {
   opens = open-bound;
   reads = read-bound;
   converts = converted-bound;
+  counts = uses-bound;
 }

@@ -18,6 +18,7 @@ use Rattle.extract.specs.Demands.{ExtractDemands}
 use Rattle.extract.specs.Desk.{DeskCall, DeskDemand}
 use Rattle.editions.specs.Laws.{Laws}
 use Rattle.editions.specs.Refuses.{ConvertersDemand}
+use Rattle.uses.specs.Demands.{UsesDemand}
 
 -- ---- answers, and what calls leave
 
@@ -92,6 +93,12 @@ converters-fields d = record {
   answers = λ e ws room. answers-fields (d .answers e ws room);
   unchanged = d .unchanged;
   past = d .past;
+}
+
+pub uses-fields : UsesDemand → UsesDemand
+uses-fields d = record {
+  answers = λ k ws. answers-fields (d .answers k ws);
+  differ = d .differ;
 }
 
 -- ---- the third demand

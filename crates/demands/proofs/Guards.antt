@@ -4,6 +4,7 @@ use Rattle.logic.proofs.Order.{order}
 use Rattle.logic.proofs.Sentences.{sentences}
 use Rattle.logic.proofs.WholeProperty.{whole-property}
 use Rattle.logic.proofs.SeparateRefusals.{separate-refusals, separate-examples}
+use Rattle.logic.proofs.FreeVariables.{free-examples}
 use Rattle.register.proofs.Shape.{shape}
 use Rattle.register.proofs.Worked.{worked-register, worked-days}
 use Rattle.register.proofs.Order.{call-order}
@@ -14,6 +15,7 @@ use Rattle.decimal.proofs.Guards.{decimal-guards}
 use Rattle.homes.proofs.Guards.{homes-guards}
 use Rattle.extract.proofs.Guards.{extract-guards}
 use Rattle.editions.proofs.Guards.{named-guards}
+use Rattle.uses.proofs.Guards.{uses-guards}
 use Rattle.demands.specs.Guards.{DefinitionGuards}
 
 pub definition-guards : DefinitionGuards
@@ -35,4 +37,6 @@ definition-guards = record {
   days = worked-days;
   names = named-guards;
   batches = batch-guards;
+  free-variables = free-examples;
+  counts = uses-guards;
 }

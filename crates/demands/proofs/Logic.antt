@@ -3,6 +3,7 @@ use mathlib.Core.List.{List}
 use Rattle.logic.specs.Term.{Term}
 use Rattle.logic.specs.Scope.{Signature}
 use Rattle.logic.proofs.Fill.{exchange}
+use Rattle.logic.proofs.FreeVariables.{free-laws}
 use Rattle.logic.proofs.Monotone.{monotone}
 use Rattle.logic.proofs.Substitution.{weaken, substitute, strengthen}
 use Rattle.logic.proofs.Regularity.{regular}
@@ -28,6 +29,7 @@ word-laws = record {
   accepts = signature-right;
   bad-at = signature-refused;
   exchange = exchange;
+  counts = free-laws;
 }
 
 pub metatheory : (Σ : List Term) → Signature Σ → Metatheory Σ

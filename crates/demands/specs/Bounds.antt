@@ -10,6 +10,7 @@ use Rattle.register.specs.Calls.{Lent, check-call, say-call, request-call, open
 use Rattle.register.specs.Batch.{refused-at, batch-call}
 use Rattle.editions.specs.Convert.{converted}
 use Rattle.editions.specs.declared.Edition.{Edition}
+use Rattle.uses.specs.Uses.{uses-call}
 
 -- of a call on the register: 21 is the extract desk's alone, 24 and 25 are the converters'
 abbrev pub CallNumber : ℕ → Type 0
@@ -28,3 +29,4 @@ pub record Bounds : Type 0 where
       CallNumber m × (p ≤ length (l .sig) + length rules)
   pub reads : (reg : List ℕ) (k : ℕ) {m p : ℕ} → read-call reg k ≡ refused m p → CallNumber m × (p ≡ 0)
   pub converts : (e : Edition) (ws : List ℕ) (room m p : ℕ) → converted e ws room ≡ refused m p → (m ≤ 25) × (p ≤ length ws)
+  pub counts : (k : ℕ) (ws : List ℕ) (m p : ℕ) → uses-call k ws ≡ refused m p → (6 ≤ m) × (m ≤ 8) × (p ≤ length ws)

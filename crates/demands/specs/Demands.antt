@@ -1,6 +1,6 @@
 -- What is proved on the definitions, in one record: the three demands, of the calls on the register, of the extract desk,
--- of the converters and of lists of calls; the theorems beside them; those of the logic; and the guards. proofs/Fields
--- takes each claim on calls field by field, so that one that loses a field is refused there.
+-- of the converters, of the count of free variables and of lists of calls; the theorems beside them; those of the logic;
+-- and the guards. proofs/Fields takes each claim on calls field by field, so that one that loses a field is refused there.
 use Prim.Native.Nat.{ℕ}
 use mathlib.Core.List.{List}
 use Rattle.logic.specs.Term.{Term}
@@ -21,16 +21,19 @@ use Rattle.extract.specs.Demands.{ExtractDemands}
 use Rattle.extract.specs.Desk.{DeskDemand3}
 use Rattle.editions.specs.Laws.{Laws}
 use Rattle.editions.specs.Refuses.{ConvertersDemand}
+use Rattle.uses.specs.Demands.{UsesDemand}
 use Rattle.demands.specs.Logic.{WordLaws, Metatheory}
 use Rattle.demands.specs.Bounds.{Bounds}
 use Rattle.demands.specs.Guards.{DefinitionGuards}
 
 pub record Demands : Type 0 where
-  -- the first and the second demand, of the calls on the register, of the extract desk and of the two converters
+  -- the first and the second demand, of the calls on the register, of the extract desk, of the two converters and of
+  -- the count of free variables
   pub refuses : Demand1
   pub succeeds : Demand2
   pub extracts : (l : Lent) (reg : List ℕ) (k : Ask) (hs t : List ℕ) (room : ℕ) → ExtractDemands l reg k hs t room
   pub converts : ConvertersDemand
+  pub counts : UsesDemand
   -- the third demand, also of lists with extracts
   pub lists : Demand3
   pub desk-lists : DeskDemand3

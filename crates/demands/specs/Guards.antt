@@ -7,6 +7,7 @@ use Rattle.logic.specs.Order.{Order}
 use Rattle.logic.specs.Sentences.{Sentences}
 use Rattle.logic.specs.WholeProperty.{WholeProperty}
 use Rattle.logic.specs.SeparateRefusals.{SeparateRefusals, SeparateExamples}
+use Rattle.logic.specs.FreeVariables.{FreeExamples}
 use Rattle.register.specs.Shape.{Shape}
 use Rattle.register.specs.Worked.{WorkedRegister, WorkedDays}
 use Rattle.register.specs.Order.{CallOrder}
@@ -17,6 +18,7 @@ use Rattle.decimal.specs.Guards.{DecimalGuards}
 use Rattle.homes.specs.Guards.{HomesGuards}
 use Rattle.extract.specs.Guards.{ExtractGuards}
 use Rattle.editions.specs.Guards.{NamedGuards}
+use Rattle.uses.specs.Guards.{UsesGuards}
 
 pub record DefinitionGuards : Type 0 where
   -- every number of the documents; document 01's starred proofs and its worked register
@@ -30,7 +32,7 @@ pub record DefinitionGuards : Type 0 where
   pub shapes : Shape
   -- lists of calls
   pub histories : HistoryGuards
-  -- document 02's slips 1, 2, 3, 5, 6 and 7
+  -- document 02's slips 1, 2, 3 and 5 to 8
   pub whole-property : WholeProperty
   pub separate-refusals : (Σ : List Term) → Signature Σ → SeparateRefusals Σ
   pub separate-examples : SeparateExamples
@@ -40,3 +42,5 @@ pub record DefinitionGuards : Type 0 where
   pub days : WorkedDays
   pub names : NamedGuards
   pub batches : BatchGuards
+  pub free-variables : FreeExamples
+  pub counts : UsesGuards

@@ -13,6 +13,7 @@ use Rattle.logic.specs.Term.{Term, P, KindP, KindT, encode}
 use Rattle.logic.specs.Move.{shift, raise, lower, fill, fill-at, occurs}
 use Rattle.logic.specs.Typing.{Has}
 use Rattle.logic.specs.Scope.{Context, Sort}
+use Rattle.logic.specs.FreeVariables.{FreeLaws}
 use Rattle.logic.specs.Reduce.{Reduces}
 use Rattle.logic.specs.Reading.{read-whole, Plain, Malformed, too-deep, FirstTooDeep, Miss, first-miss, FirstMiss}
 use Rattle.logic.specs.Infer.{infer, proposition}
@@ -34,8 +35,9 @@ pub record WordLaws : Type 0 where
   -- a signature list is accepted exactly if it lists constants, and refused exactly at its first bad one
   pub accepts : (ws : List ℕ) (Σ : List Term) → (signature ws ≡ ok Σ) ↔ Lists [] ws Σ
   pub bad-at : (ws : List ℕ) (m p : ℕ) → (signature ws ≡ refused m p) ↔ ((m ≡ bad-signature) × BadConstant [] ws p)
-  -- two fillings exchange
+  -- two fillings exchange; what the count of free variables tells
   pub exchange : (k : ℕ) (a b t : Term) → fill-at k a (fill-at (suc k) b t) ≡ fill-at k b (fill-at k (raise 1 a) t)
+  pub counts : FreeLaws
 
 -- with the constants Σ of a signature
 pub record Metatheory (Σ : List Term) : Type 0 where

@@ -37,10 +37,14 @@ use Rattle.editions.specs.declared.Edition.{Edition}
 use Rattle.named.specs.declared.convert.Conversion.{Conversion}
 use Rattle.named.specs.declared.convert.Conversion.the-variants.{Written, Refused as ConversionRefused}
 use Rattle.editions.proofs.Refuses.{converted-bound}
+use Rattle.uses.specs.Uses.{uses-call, counted-answer}
+use Rattle.uses.specs.declared.Counted.{Counted}
+use Rattle.uses.specs.declared.Counted.the-variants.{Free, Refused as CountRefused}
+use Rattle.uses.proofs.Demands.{uses-bound}
 use Rattle.extract.specs.Extract.{extract-call}
 use Rattle.extract.proofs.Demands.{extract-bound}
 use Rattle.host.specs.Answers.{number-unit, place-limit, code-of, added-of, SaidTo, batch-code-of, index-of, BatchedTo}
-use Rattle.host.specs.Answers.{written-of, ConvertedTo, TypedTo}
+use Rattle.host.specs.Answers.{written-of, ConvertedTo, count-of, CountedTo, TypedTo}
 
 -- a number and a place that make up an answer
 abbrev pub Fits : ℕ → ℕ → Type 0
@@ -123,6 +127,21 @@ module _ (o : Result (List ℕ)) (old new : List ℕ) (r : Conversion) (C : Conv
 
 pub convert-fits : (e : Edition) (ws : List ℕ) (room m p : ℕ) → length ws < place-limit → converted e ws room ≡ refused m p → Fits m p
 convert-fits e ws room m p h r = let (n, l) = converted-bound e ws room m p r in omega arith
+
+-- ---- uses
+
+module _ (o : Result ℕ) (r : Counted) (e : counted-answer r ≡ o) where
+  pub counted-to : (n : ℕ) → r ≡ Free n → CountedTo o n 0
+  counted-to n q = let f = sym (ap counted-answer q) ∙ e in record { answer = ap code-of f; count-is = ap count-of f }
+
+  pub uncounted-is : (m p : ℕ) → r ≡ CountRefused m p → o ≡ refused m p
+  uncounted-is m p q = sym e ∙ ap counted-answer q
+
+  pub not-counted : (m p : ℕ) → r ≡ CountRefused m p → (code : ℕ) → code ≡ m * number-unit + p → CountedTo o 0 code
+  not-counted m p q code c = let f = uncounted-is m p q in record { answer = refused-code o m p code f c; count-is = sym (ap count-of f) }
+
+pub uses-fits : (k : ℕ) (ws : List ℕ) (m p : ℕ) → length ws < place-limit → uses-call k ws ≡ refused m p → Fits m p
+uses-fits k ws m p h r = let (a, b, l) = uses-bound k ws m p r in omega arith
 
 -- ---- say
 

@@ -75,6 +75,15 @@ pub record ConvertedTo (o : Result (List ℕ)) (old out : List ℕ) (written cod
   pub output : out ≡ after-write o old
   pub written-is : written ≡ written-of o
 
+-- a count of free variables, 0 where refused
+abbrev pub count-of : Result ℕ → ℕ
+count-of (ok n) = n
+count-of (refused m p) = 0
+
+pub record CountedTo (o : Result ℕ) (count code : ℕ) : Type 0 where
+  pub answer : code ≡ code-of o
+  pub count-is : count ≡ count-of o
+
 -- a check that tells where the type stands: the first words of the workspace, none where refused
 pub record TypedTo (o : Result Term) (workspace : List ℕ) (words code : ℕ) : Type 0 where
   pub answer : code ≡ code-of o

@@ -16,6 +16,8 @@ use request::request;
 use rules::derivation::Derivation;
 use say::Said;
 use say::say;
+use uses::Counted;
+use uses::uses;
 use words::verdict::Verdict;
 ghost use mathlib.Core.Path.{_≡_};
 ghost use Prim.Native.Nat.{_+_, _*_, _≤_, _<_};
@@ -25,8 +27,9 @@ ghost use Rattle.register.specs.Records.{statement-of, ask-of};
 ghost use Rattle.register.specs.Calls.{check-call};
 ghost use Rattle.shared_tests.specs.Shared.{lent-of};
 ghost use Rattle.editions.specs.Convert.{from-named, to-named};
+ghost use Rattle.uses.specs.Uses.{uses-call};
 ghost use Rattle.host.specs.Answers.{number-unit, place-limit, code-of};
-ghost use Rattle.host.specs.Answers.{OpenedTo, SaidTo, RequestedTo, BatchedTo, ExtractedTo, ConvertedTo, TypedTo, ReadTo};
+ghost use Rattle.host.specs.Answers.{OpenedTo, SaidTo, RequestedTo, BatchedTo, ExtractedTo, ConvertedTo, CountedTo, TypedTo, ReadTo};
 
 // What a refusal's number is multiplied by.
 const NUMBER_UNIT: u64 = 4294967296;
@@ -294,6 +297,24 @@ pub extern "C" fn aura0_from_named(term: &[u32], output: &mut [u32], written: &m
         }
         Conversion::Refused { number, place } => {
             *written = 0;
+            code(number, place)
+        }
+    }
+}
+
+// Uses: `count` is how many variables numbered `from` or more stand free, 0 where refused.
+#[no_mangle]
+pub extern "C" fn aura0_uses(term: &[u32], from: u32, count: &mut usize) -> u64
+    ensures { λ r. ⌜ CountedTo (uses-call from (now (term .entry))) (now (count .exit)) r ⌝ }
+{
+    let counted = uses(term, from);
+    match counted {
+        Counted::Free(free) => {
+            *count = free;
+            0
+        }
+        Counted::Refused { number, place } => {
+            *count = 0;
             code(number, place)
         }
     }

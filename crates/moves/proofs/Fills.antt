@@ -19,6 +19,7 @@ use Rattle.words.specs.Place.{At, Is, written-at}
 use Rattle.words.proofs.Lists.{written-set, written-node, length-written}
 use Rattle.words.proofs.Places.{at-head, part-is, at-left, at-right, size-is, at-payload, deeper}
 use Rattle.moves.specs.Shift.{Shifted}
+use Rattle.moves.specs.declared.shift.Shift.{Shift}
 use Rattle.moves.specs.Fill.{filled-answer, FilledTo}
 use Rattle.moves.specs.declared.fill.Filled.{Filled}
 use Rattle.moves.specs.declared.fill.Filled.the-variants.{Done, Over}
@@ -87,13 +88,13 @@ module _ (ws fs : List ℕ) (at c : ℕ) (old : List ℕ) (to n : ℕ) (l : to �
       → FilledTo (var m) (fill-at c e (var m)) at old to new r
   replaced {u} {new} {r} q f = subst (λ (v : Term). FilledTo (var m) v at old to new r) (sym q) f
 
-  pub same-done : {z : ℤ} (new : List ℕ) (w : ℕ) → z ≡ pos c → length fs ≤ length old - to → n ≡ c → Shifted e 0 z old to new w
-      → FilledTo (var m) (fill-at c e (var m)) at old to new (Done (at + 1) (to + w))
+  pub same-done : {z : ℤ} (new : List ℕ) (w : Shift) → z ≡ pos c → length fs ≤ length old - to → n ≡ c → Shifted e 0 z old to new w
+      → FilledTo (var m) (fill-at c e (var m)) at old to new (Done (at + 1) (to + w .words))
   unfolding size
   same-done {z} new w p f q s =
       let b = size-is fs e i in
       replaced (fill-here e (sym number ∙ q))
-      (done (var m) (raise c e) at old to new (at + 1) (to + w) refl (omega (arith, s .count, raised-words)) (omega (arith, s .count))
+      (done (var m) (raise c e) at old to new (at + 1) (to + w .words) refl (omega (arith, s .words-are, raised-words)) (omega (arith, s .words-are))
       (s .words ∙ ap (λ (v : ℤ). written-at old to (encode (shift 0 v e))) p))
 
   pub same-over : length old - to < length fs → n ≡ c → FilledTo (var m) (fill-at c e (var m)) at old to old Over

@@ -3,4 +3,3 @@ pub mod Signed
 pub mod Cases
 pub mod Shifts
 pub mod Fills
-pub mod Occurrences

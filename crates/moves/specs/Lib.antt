@@ -1,4 +1,3 @@
 -- What the code that moves terms is asked and what it ensures, by the definitions of `logic`.
 pub mod Shift
 pub mod Fill
-pub mod Occurrence

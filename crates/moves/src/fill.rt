@@ -40,10 +40,10 @@ fn fill_variable(
     if n == c {
         if filler.len() <= out.len() - to {
             let up = c as i32;
-            let w = shift_into(filler, 0, up, out, to);
+            let raised = shift_into(filler, 0, up, out, to);
             return Filled::Done {
                 next: at + 1,
-                end: to + w,
+                end: to + raised.words,
             };
         }
         return Filled::Over;

@@ -25,6 +25,7 @@ use Rattle.logic.proofs.Words.{head, shape-first, encode-size, shape-op, node-p
 use Rattle.logic.specs.Kind.{kind-binder, op-kind, shape-kind}
 use Rattle.words.specs.Place.{At, written-at}
 use Rattle.moves.specs.Shift.{Shifted}
+use Rattle.moves.specs.declared.shift.Shift.{Shift}
 use Rattle.words.specs.Typed.{TypeAt}
 use Rattle.words.proofs.Places.{words-head, at-left}
 use Rattle.words.proofs.Lists.{drop-written, written-before, written-inside}
@@ -117,17 +118,17 @@ module _ {ws mid : List ℕ} {n : ℕ} {p q : Term} (used : ℕ) (h : TypeAt ws 
       at-left i
 
   -- its principal was raised, and the entry's head written
-  pub says-kept : {low new : List ℕ} {w : ℕ} (at : ℕ) (a : Term) → Shifted p 0 (pos 1) mid (length ws - (used + (entry-head + n)) + entry-head + 1) low w
-      → new ≡ written-at low (length ws - (used + (entry-head + n))) ((entry-head + n) ∷ 0 ∷ (n - 1 - w) ∷ [])
+  pub says-kept : {low new : List ℕ} {w : Shift} (at : ℕ) (a : Term) → Shifted p 0 (pos 1) mid (length ws - (used + (entry-head + n)) + entry-head + 1) low w
+      → new ≡ written-at low (length ws - (used + (entry-head + n))) ((entry-head + n) ∷ 0 ∷ (n - 1 - w .words) ∷ [])
       → Kept (binder-entry bindO at a (Says p q)) used ws new (used + (entry-head + n))
   says-kept {low} {new} {w} at a f g =
       let to : ℕ = length ws - (used + (entry-head + n)) in
       let x : List ℕ = op-word saysO ∷ [] in
       let k : n ≡ 1 + size p + size q = s ∙ says-size p q in
-      let c : w ≡ size p = f .count in
+      let c : w .words ≡ size p = f .words-are in
       let m : length (encode (raise 1 p)) ≡ size p = length-shift 0 (pos 1) p in
       let y : length (encode p) ≡ size p = encode-size p in
-      let t : n - 1 - w ≡ size q = omega arith in
+      let t : n - 1 - w .words ≡ size q = omega arith in
       let u : low ≡ written-at ws (to + entry-head) (x ++ (encode (raise 1 p) ++ encode q)) =
       f .words
       ∙ ap (λ (o : List ℕ). written-at o (to + entry-head + 1) (encode (raise 1 p))) (e ∙ ap (written-at ws (to + entry-head)) (copied ∙ says-encode p q))
@@ -137,8 +138,8 @@ module _ {ws mid : List ℕ} {n : ℕ} {p q : Term} (used : ℕ) (h : TypeAt ws 
       record {
         count = ap (λ (i : ℕ). used + i) r;
         words = g
-            ∙ ap (λ (o : List ℕ). written-at o to ((entry-head + n) ∷ 0 ∷ (n - 1 - w) ∷ [])) u
-            ∙ written-before ws to ((entry-head + n) ∷ 0 ∷ (n - 1 - w) ∷ []) (x ++ (encode (raise 1 p) ++ encode q)) (omega arith)
+            ∙ ap (λ (o : List ℕ). written-at o to ((entry-head + n) ∷ 0 ∷ (n - 1 - w .words) ∷ [])) u
+            ∙ written-before ws to ((entry-head + n) ∷ 0 ∷ (n - 1 - w .words) ∷ []) (x ++ (encode (raise 1 p) ++ encode q)) (omega arith)
             ∙ ap₂ (λ (i j : ℕ). written-at ws to (i ∷ 0 ∷ j ∷ (x ++ (encode (raise 1 p) ++ encode q)))) (ap (λ (i : ℕ). entry-head + i) s) t
             ∙ ap (λ (i : ℕ). written-at ws (length ws - (used + i)) xs) r;
       }

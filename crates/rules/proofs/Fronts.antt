@@ -76,8 +76,14 @@ pub measured-long : (at : ℕ) (A : Term) → most-type-words < size A → measu
 measured-long at A l = simp (lt-leb (size A) most-type-words l)
 
 -- a refusal writes nothing
+-- a refusal, whatever stands at the front
+pub formed-refusal : (o : Result Term) (m p end : ℕ) (ws new : List ℕ) → o ≡ refused m p → drop front-words new ≡ drop front-words ws
+    → TypeFormed o end ws new (Refused m p)
+formed-refusal o m p end ws new e r =
+    subst (λ (o : Result Term). TypeFormed o end ws new (Refused m p)) (sym e) (record { answer = refl; front = tt; rest = r })
+
 pub formed-refused : (o : Result Term) (m p end : ℕ) (ws : List ℕ) → o ≡ refused m p → TypeFormed o end ws ws (Refused m p)
-formed-refused o m p end ws e = subst (λ (o : Result Term). TypeFormed o end ws ws (Refused m p)) (sym e) (record { answer = refl; front = tt; rest = refl })
+formed-refused o m p end ws e = formed-refusal o m p end ws ws e refl
 
 pub formed-typed : (o : Result Term) (A : Term) (words end : ℕ) (ws new : List ℕ) → o ≡ ok A → words ≡ size A → TypeAt new 0 A
     → drop front-words new ≡ drop front-words ws → TypeFormed o end ws new (Typed words end)

@@ -22,6 +22,7 @@ use Rattle.logic.specs.Infer.{measured}
 use Rattle.words.specs.Place.{At, Is, written-at}
 use Rattle.words.specs.Lookup.{part-of}
 use Rattle.moves.specs.Shift.{Shifted}
+use Rattle.moves.specs.declared.shift.Shift.{Shift}
 use Rattle.words.proofs.Lists.{written-front}
 use Rattle.words.proofs.Places.{part-is}
 use Rattle.moves.proofs.Shifts.{size-shift, length-shift}
@@ -147,14 +148,15 @@ module _ {proof ws : List ℕ} {kept n : ℕ} {Γ : List Term} (at : ℕ) (e : E
       (f A i (h A (e .known) (omega arith)))
 
 -- the raised type's words were written at the front
-pub raised-front : {z : ℤ} {ws part zeros raised new : List ℕ} {n w : ℕ} (at : ℕ) (A : Term) → size A ≤ most-type-words → z ≡ pos (suc n) → Is part A
-    → ((t : Term) → Is part t → Shifted t 0 z zeros 0 raised w) → new ≡ written-at ws 0 (take w raised) → PlainType (raise (suc n) A)
-    → TypeFormed (ok (raise (suc n) A)) (at + 1) ws new (Typed w (at + 1))
+pub raised-front : {z : ℤ} {ws part zeros raised new : List ℕ} {n : ℕ} {w : Shift} (at : ℕ) (A : Term) → size A ≤ most-type-words
+    → z ≡ pos (suc n) → Is part A → ((t : Term) → Is part t → Shifted t 0 z zeros 0 raised w)
+    → new ≡ written-at ws 0 (take (w .words) raised) → PlainType (raise (suc n) A)
+    → TypeFormed (ok (raise (suc n) A)) (at + 1) ws new (Typed (w .words) (at + 1))
 raised-front {z} {ws} {part} {zeros} {raised} {new} {n} {w} at A l y i f c h =
     let s = f A i in
     let r : size (raise (suc n) A) ≡ size A = size-shift 0 (pos (suc n)) A in
-    writes (ok (raise (suc n) A)) (raise (suc n) A) w (at + 1) ws ws new refl (s .count ∙ sym r) (omega arith) h refl
-    (c ∙ ap (written-at ws 0) (written-front zeros raised (encode (shift 0 z A)) w (s .words) (s .count ∙ sym (length-shift 0 z A))
+    writes (ok (raise (suc n) A)) (raise (suc n) A) (w .words) (at + 1) ws ws new refl (s .words-are ∙ sym r) (omega arith) h refl
+    (c ∙ ap (written-at ws 0) (written-front zeros raised (encode (shift 0 z A)) (w .words) (s .words) (s .words-are ∙ sym (length-shift 0 z A))
     ∙ ap (λ (v : ℤ). encode (shift 0 v A)) y))
 
 -- ---- the machine's sum of a variable's number and a small amount

@@ -83,7 +83,7 @@ fn keep_says(ws: &mut [u32], used: usize, n: usize) -> usize
     let start = head + ENTRY_HEAD;
     copy_within(ws, 0, n, start);
     let principal = shift_within(ws, start + 1, 0, 1);
-    put_head(ws, head, ENTRY_HEAD + n, 0, n - 1 - principal);
+    put_head(ws, head, ENTRY_HEAD + n, 0, n - 1 - principal.words);
     kept
 }
 

@@ -61,9 +61,12 @@ fn raised(
 {
     // "A binder's type stands either in the proof's words or in the workspace"
     let part = lookup(proof, &ws[..], in_workspace, from, from + size);
-    let words = shift_into(part, 0, n as i32 + 1, buffer, 0);
-    copy(&buffer[..], 0, words, ws, 0);
-    Derivation::Typed { words, end: at + 1 }
+    let raised = shift_into(part, 0, n as i32 + 1, buffer, 0);
+    copy(&buffer[..], 0, raised.words, ws, 0);
+    Derivation::Typed {
+        words: raised.words,
+        end: at + 1,
+    }
 }
 
 // The type of variable n, raised to where the variable stands, at the front of the workspace.

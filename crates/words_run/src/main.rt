@@ -37,10 +37,11 @@ fn nested_whole(words: &[u32], left: usize) -> Nesting {
 }
 
 // The words that `shift_into` writes into out, for words that are one term; 0 where they are none, or there is no room,
-// or a number is too big.
-fn shifted(words: &[u32], c: u32, amount: i32, out: &mut [u32]) -> usize
+// or a number is too big. `free` is its count.
+fn shifted(words: &[u32], c: u32, amount: i32, out: &mut [u32], free: &mut usize) -> usize
     ensures { λ r. ⌜ Counts r (now (out .exit)) ⌝ }
 {
+    *free = 0;
     let read = read_whole(words);
     let Parse::End(n) = read else {
         return 0;
@@ -61,7 +62,9 @@ fn shifted(words: &[u32], c: u32, amount: i32, out: &mut [u32]) -> usize
     if FAR < amount {
         return 0;
     }
-    shift_into(words, c, amount, out, 0)
+    let shift = shift_into(words, c, amount, out, 0);
+    *free = shift.free;
+    shift.words
 }
 
 // The words that `fill_into` writes into out, for a body and a filler that are one term each; 0 where they are none, or
@@ -153,7 +156,10 @@ fn shift(label: &[u8], words: &[u32], c: u32, amount: i32) {
     io::write_all(1, b"shift ");
     io::write_all(1, label);
     let mut out = [0u32; 256];
-    let n = shifted(words, c, amount, &mut out);
+    let mut free = 0;
+    let n = shifted(words, c, amount, &mut out, &mut free);
+    io::write_all(1, b", free ");
+    io::print_decimal(1, free as u64);
     print_result(&out[..n]);
 }
 
@@ -187,6 +193,8 @@ fn reads() {
 fn shifts() {
     let body = [LAM, V0, APP, V0, V0 + 1];
     shift(b"Lam V0 App V0 V1 up 2", &body, 0, 2);
+    shift(b"Lam V0 App V0 V1 by 0", &body, 0, 0);
+    shift(b"Lam V0 App V0 V1 by 0 under 1", &body, 1, 0);
     let free = [PI, V0 + 3, V0 + 4];
     shift(b"Pi V3 V4 down 3", &free, 0, 0 - 3);
     shift(b"Pi V3 V4 up 1 under 4", &free, 4, 1);

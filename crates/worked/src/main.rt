@@ -1,25 +1,11 @@
 // Makes document 01's examples, and those of document 02's requests that have landed, through the calls of the
 // register, and prints a line for each.
-mod lines;
-
-use crate::lines::batch_line;
-use crate::lines::check_line;
-use crate::lines::check_line_on;
-use crate::lines::check_line_with;
-use crate::lines::counts_line;
-use crate::lines::from_named_line;
-use crate::lines::heading;
-use crate::lines::open_line;
-use crate::lines::read_line;
-use crate::lines::request_line;
-use crate::lines::request_line_on;
-use crate::lines::say_line;
-use crate::lines::say_line_on;
-use crate::lines::to_named_line;
 use logic::limit::LEAST_WORKSPACE;
 use logic::word::APP;
 use logic::word::LAM;
 use logic::word::PI;
+use logic::word::PRIN;
+use logic::word::SAYS;
 use sample::A0;
 use sample::A3;
 use sample::C0;
@@ -47,6 +33,21 @@ use sample::statement_254;
 use sample::statement_255;
 use sample::trust;
 use sample::trusting;
+use worked_lines::batch_line;
+use worked_lines::check_line;
+use worked_lines::check_line_on;
+use worked_lines::check_line_with;
+use worked_lines::counts_line;
+use worked_lines::from_named_line;
+use worked_lines::heading;
+use worked_lines::open_line;
+use worked_lines::read_line;
+use worked_lines::request_line;
+use worked_lines::request_line_on;
+use worked_lines::say_line;
+use worked_lines::say_line_on;
+use worked_lines::to_named_line;
+use worked_lines::uses_line;
 
 // "Rule r, a3 says App C2 s7": how each register here begins.
 fn begin(register: &mut [u32]) {
@@ -296,6 +297,24 @@ fn short_batch(register: &mut [u32; 117]) {
     counts_line(register);
 }
 
+// Document 02, slip 8: "Counted from a body's variable 0 on and from 1 on, the two differ by the uses of its binder".
+// Of r's proposition Pi S Pi N Pi Says V0 App C2 V1 App C0 V2 the string is used twice, and what it asks for is not.
+fn uses() {
+    heading(b"The uses of binders");
+    let string = [PI, PRIN, PI, SAYS, V0, APP, C2, V0 + 1, APP, C0, V0 + 2];
+    uses_line(b"the body of Pi S, from 0 on", &string, 0);
+    uses_line(b"the body of Pi S, from 1 on", &string, 1);
+    let asked = [APP, C0, V0 + 2];
+    uses_line(b"the body of Pi Says V0 App C2 V1, from 0 on", &asked, 0);
+    uses_line(b"the body of Pi Says V0 App C2 V1, from 1 on", &asked, 1);
+    let p = proof();
+    uses_line(b"p, from 0 on", &p, 0);
+    let signed = [APP, SIGN3, V0, V0];
+    uses_line(b"App Sign3 V0 V0, from 0 on", &signed, 0);
+    let cut = [APP, C0];
+    uses_line(b"7, App C0", &cut, 0);
+}
+
 fn main() {
     let mut granted = [0u32; 70];
     grant(&mut granted);
@@ -314,4 +333,5 @@ fn main() {
     batches(&mut both);
     let mut one = [0u32; 117];
     short_batch(&mut one);
+    uses();
 }

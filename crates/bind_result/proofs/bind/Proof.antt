@@ -1,21 +1,23 @@
--- `bind` gives a Bind's type: another principal says the body's type, or the variable occurs in it, or it is shifted
--- down in place.
+-- `bind` gives a Bind's type: another principal says the body's type, or the two shifts count otherwise, since it uses
+-- the binder, or it is shifted down in place.
 use Prim.Native.Nat.{ℕ, _+_, _-_, _≤_}
 use native.Mathlib.Omega.{arith}
-use mathlib.Core.Path.{_≡_, sym, ap}
+use mathlib.Core.Path.{_≡_, sym, subst}
+use mathlib.Core.List.{List}
 use lib.Seq.{length-take-le}
 use lib.ListN.{length, take, drop, getD}
 use borrow.Author.Tests.{not-false}
 use borrow.Author.Needs.{needs}
 use Rattle.logic.specs.Limits.{most-type-words}
-use Rattle.logic.specs.Term.{size}
+use Rattle.logic.specs.Term.{Term, size}
 use Rattle.logic.proofs.Words.{size-pos}
+use Rattle.words.specs.Place.{At}
 use Rattle.words.proofs.Places.{at-end}
-use Rattle.moves.specs.Occurrence.{occurrence-answer}
+use Rattle.moves.proofs.Shifts.{zero-shifted}
 use Rattle.rules.specs.Scope.{entry-head}
 use Rattle.rules.specs.Form.{front-words}
-use Rattle.bind_result.proofs.Results.{total-is, kept-size, said-is, kept-inside, said-size, bind-short, bind-differs, saying, said-at, right-at}
-use Rattle.bind_result.proofs.Results.{bind-present, bind-absent}
+use Rattle.bind_result.specs.BindResult.{Binds}
+use Rattle.bind_result.proofs.Results.{total-is, kept-size, said-is, kept-inside, bind-short, bind-differs, said-at, bind-used, bind-unused}
 use Rattle.bind_result.proofs.bind.Statement.{statement}
 use Rattle.bind_result.proofs.bind.Tie as tie
 
@@ -57,11 +59,15 @@ before-held c = c .before .before .before .before .before
 abbrev before-else2 : tie.Else2 → tie.After-held
 before-else2 c = c .before .before .before .before
 
-abbrev before-occurs : tie.After-occurs → tie.Else2
-before-occurs c = c .before .before
+-- the body's type was shifted by 0, and then by minus 1
+abbrev before-counted : tie.After-shift-within → tie.Else2
+before-counted c = c .before .before
 
-abbrev before-match-keys2 : tie.At-match-keys2 → tie.After-occurs
-before-match-keys2 c = c .before
+abbrev before-lowered : tie.After-shift-within2 → tie.After-shift-within
+before-lowered c = c .before .before .before .before
+
+abbrev before-test : tie.After-struct-known2 → tie.After-shift-within2
+before-test c = c .before .before .before .before
 
 -- the words compared are the same
 agree : (c : tie.Else2) →
@@ -146,69 +152,61 @@ returns-2 c =
     λ p q B j. bind-differs (a .ws .now) (a .used) (a .at) (a .m) (a .end) p q B j _ (said-is (a .ws .now) (a .used) (a .at) (a .m) (a .end) p q B j)
     (c .before .same .result) (c .if2 .taken) (c .before .same .ensures .1)
 
-occurs-requires : tie.Need-occurs-requires
-occurs-requires c κs =
-    let at-else2 = c .before in
-    let s = before-held (before-else2 at-else2) in
-    let a = s .args in
-    let p = s .pre in
-    let i = said-is (a .ws .now) (a .used) (a .at) (a .m) (a .end) (p .p) (p .q) (p .B) (p .binds) in
-    let g = agree at-else2 in
-    let t = saying (a .ws .now) (a .used) (a .at) (a .m) (a .end) (p .p) (p .q) (p .B) (p .binds) _ i g in
-    let z = said-size (a .ws .now) (a .used) (a .at) (a .m) (a .end) (p .p) (p .q) (p .B) (p .binds) _ i t in
-    record {
-      term = t .right;
-      here = right-at (a .ws .now) (a .used) (a .at) (a .m) (a .end) (p .p) (p .q) (p .B) (p .binds) _ i g;
-      deep = omega (arith, z, p .small);
-    }
+-- the body's type stands at the front, and after the shift by 0 too
+standing : (c : tie.Else2) → let a = before-held (before-else2 c) .args in (p q B : Term) → Binds (a .ws .now) (a .used) (a .m) p q B → At (a .ws .now) 0 B
+standing c p q B j =
+    let a = before-held (before-else2 c) .args in
+    said-at (a .ws .now) (a .used) (a .at) (a .m) (a .end) p q B j _ (said-is (a .ws .now) (a .used) (a .at) (a .m) (a .end) p q B j) (agree c)
 
-enum-told : tie.Need-enum-told
-enum-told c = search needs
-
-enum-told-2 : tie.Need-enum-told-2
-enum-told-2 c = search needs
+still-standing : (c : tie.After-shift-within) → let a = before-held (before-else2 (before-counted c)) .args in
+    (p q B : Term) → Binds (a .ws .now) (a .used) (a .m) p q B → At (c .shift-within .last .0) 0 B
+still-standing c p q B j =
+    let h = standing (before-counted c) p q B j in
+    subst (λ (v : List ℕ). At v 0 B) (sym (zero-shifted h (c .shift-within .ensures B h))) h
 
 shift-within-requires : tie.Need-shift-within-requires
 shift-within-requires c κs =
-    let at-else2 = before-occurs (c .before .before .before) in
-    let s = before-held (before-else2 at-else2) in
-    let a = s .args in
+    let s = before-held (before-else2 (c .before)) in
     let p = s .pre in
-    let i = said-is (a .ws .now) (a .used) (a .at) (a .m) (a .end) (p .p) (p .q) (p .B) (p .binds) in
-    let h = said-at (a .ws .now) (a .used) (a .at) (a .m) (a .end) (p .p) (p .q) (p .B) (p .binds) _ i (agree at-else2) in
-    let n = at-end h in
+    let h = standing (c .before) (p .p) (p .q) (p .B) (p .binds) in
     let k = p .binds .type-words in
-    record { term = p .B; here = h; fits = omega (arith, n); deep = omega (arith, k, p .small); near = omega arith }
+    record { term = p .B; here = h; fits = omega (arith, at-end h); deep = omega (arith, k, p .small); near = omega arith }
+
+shift-within-requires-2 : tie.Need-shift-within-requires-2
+shift-within-requires-2 c κs =
+    let d = c .before .before .before in
+    let p = before-held (before-else2 (before-counted d)) .pre in
+    let h = still-standing d (p .p) (p .q) (p .B) (p .binds) in
+    let k = p .binds .type-words in
+    record { term = p .B; here = h; fits = omega (arith, at-end h); deep = omega (arith, k, p .small); near = omega arith }
 
 same-length-2 : tie.Need-same-length-2
 same-length-2 c = search needs
 
 returns-3 : tie.Need-returns-3
 returns-3 c =
-    let at-occurs = c .before .before in
-    let at-else2 = before-occurs at-occurs in
-    let at-start = before-held (before-else2 at-else2) in
-    let a = at-start .args in
-    let g = agree at-else2 in
-    λ p q B j. let i = said-is (a .ws .now) (a .used) (a .at) (a .m) (a .end) p q B j in bind-present (a .ws .now) (a .used) (a .at) (a .m) (a .end) p
-    q B j _ i g _
-    (at-occurs .occurs .ensures _ (right-at (a .ws .now) (a .used) (a .at) (a .m) (a .end) p q B j _ i g)) (ap occurrence-answer (c .enum-told .given .1))
+    let lowered = before-test (c .before) in
+    let counted = before-lowered lowered in
+    let at-else2 = before-counted counted in
+    let s = before-held (before-else2 at-else2) in
+    let a = s .args in
+    λ p q B j. bind-used (a .ws .now) (a .used) (a .at) (a .m) (a .end) p q B j _ (said-is (a .ws .now) (a .used) (a .at) (a .m) (a .end) p q B j)
+    (agree at-else2) (counted .shift-within .ensures B (standing at-else2 p q B j)) (lowered .shift-within2 .ensures B (still-standing counted p q B j))
+    (s .pre .small) (c .if3 .taken)
 
 same-length-3 : tie.Need-same-length-3
 same-length-3 c = search needs
 
 returns-4 : tie.Need-returns-4
 returns-4 c =
-    let at-occurs = before-match-keys2 (c .before .before .before .before .before) in
-    let at-else2 = before-occurs at-occurs in
+    let lowered = before-test (c .before) in
+    let counted = before-lowered lowered in
+    let at-else2 = before-counted counted in
     let s = before-held (before-else2 at-else2) in
     let a = s .args in
-    let g = agree at-else2 in
-    λ p q B j. let i = said-is (a .ws .now) (a .used) (a .at) (a .m) (a .end) p q B j in bind-absent (a .ws .now) (a .used) (a .at) (a .m) (a .end) p
-    q B j _ i g _
-    (at-occurs .occurs .ensures _ (right-at (a .ws .now) (a .used) (a .at) (a .m) (a .end) p q B j _ i g)) _ _ _
-    (ap occurrence-answer (c .before .before .before .before .enum-told2 .given .1)) (s .pre .small)
-    (c .before .before .shift-within .ensures B (said-at (a .ws .now) (a .used) (a .at) (a .m) (a .end) p q B j _ i g))
+    λ p q B j. bind-unused (a .ws .now) (a .used) (a .at) (a .m) (a .end) p q B j _ (said-is (a .ws .now) (a .used) (a .at) (a .m) (a .end) p q B j)
+    (agree at-else2) (counted .shift-within .ensures B (standing at-else2 p q B j)) (lowered .shift-within2 .ensures B (still-standing counted p q B j))
+    (s .pre .small) (c .if3 .left)
 
 pub bind-spec : {M : Type 1} → statement M
 bind-spec =
@@ -235,10 +233,8 @@ bind-spec =
     same-requires
     same-length
     returns-2
-    occurs-requires
-    enum-told
-    enum-told-2
     shift-within-requires
+    shift-within-requires-2
     same-length-2
     returns-3
     same-length-3

@@ -80,7 +80,7 @@ returns-7 : tie.Need-returns-7
 returns-7 c =
     let w = c .before .before in
     let h = term (read (tested (w .before))) in
-    let n = w .shift-into .ensures (h .term) (h .is) .count in
+    let n = w .shift-into .ensures (h .term) (h .is) .words-are in
     let k = w .shift-into .kept .1 .1 .1 .0 in
     counts _ _ (omega (arith, h .count))
 

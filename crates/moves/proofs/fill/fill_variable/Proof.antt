@@ -24,8 +24,8 @@ abbrev fits : tie.Then2 → tie.After-payload-of
 fits c = c .before .before
 
 -- from behind the shift of the filler
-abbrev shifted : tie.After-slice-known2 → tie.After-shift-into
-shifted c = c .before .before
+abbrev shifted : tie.After-struct-known → tie.After-shift-into
+shifted c = c .before .before .before
 
 abbrev shifts : tie.After-shift-into → tie.Then2
 shifts c = c .before .before
@@ -73,14 +73,14 @@ shift-into-requires c κs =
     record { term = p .filler; whole = p .lends; fits = c .before .if2 .taken; deep = omega (arith, p .short); near = omega (arith, p .deep) }
 
 add-t21 : tie.Need-add-t21
-add-t21 c = let r = within (start (fits (shifts (shifted c)))) in omega arith
+add-t21 c = let r = within (start (fits (shifts (c .before .before)))) in omega arith
 
 add-t22 : tie.Need-add-t22
 add-t22 c =
     let w = shifted c in
     let s = start (fits (shifts w)) in
     let p = s .pre .1 in
-    let e = w .shift-into .ensures (p .filler) (p .lends) .count in
+    let e = w .shift-into .ensures (p .filler) (p .lends) .words-are in
     let l = size-is (s .args .filler .now) (p .filler) (p .lends) in
     omega arith
 

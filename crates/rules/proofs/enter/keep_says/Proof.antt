@@ -34,11 +34,11 @@ before-ws2 c = c .before
 
 principal : (c : tie.After-shift-within) →
     let at-start = before-copy-within (before-shift-within c) in
-    c .shift-within .result ≡ size (at-start .pre .p)
+    c .shift-within .result .words ≡ size (at-start .pre .p)
 principal c =
     let at-copy-within = before-shift-within c in
     let s = before-copy-within at-copy-within in
-    c .shift-within .ensures (s .pre .p) (said-for at-copy-within (s .pre .p) (s .pre .q) (s .pre .type) (s .pre .type-words)) .count
+    c .shift-within .ensures (s .pre .p) (said-for at-copy-within (s .pre .p) (s .pre .q) (s .pre .type) (s .pre .type-words)) .words-are
 
 add-kept : tie.Need-add-kept
 add-kept c = search needs
@@ -88,7 +88,7 @@ sub-put-head c =
 
 sub-put-head-2 : tie.Need-sub-put-head-2
 sub-put-head-2 c =
-    let at-shift-within = c .before .before .before in
+    let at-shift-within = c .before .before .before .before in
     let s = before-copy-within (before-shift-within at-shift-within) in
     let k = says-size (s .pre .p) (s .pre .q) in let e = principal at-shift-within in omega (arith, s .pre .type-words)
 
@@ -100,7 +100,7 @@ same-length c = search needs
 
 returns : tie.Need-returns
 returns c =
-    let at-shift-within = before-ws2 (c .before .before .before .before .before) in
+    let at-shift-within = before-ws2 (c .before .before .before .before .before .before) in
     let at-copy-within = before-shift-within at-shift-within in
     let s = before-copy-within at-copy-within in
     λ at a p q h e. says-kept (s .args .used) h e (omega (arith, s .pre .room, s .pre .small)) (at-copy-within .copy-within .ensures) at a

@@ -86,7 +86,7 @@ copy-requires c κs =
     let w = shifted c in
     let d = looked-up w in
     let p = start d .pre in
-    let k = w .shift-into .ensures (p .type) (part d (p .type) (p .part)) .count in
+    let k = w .shift-into .ensures (p .type) (part d (p .type) (p .part)) .words-are in
     let l = w .shift-into .kept .1 .1 .1 .0 in
     (omega (arith, p .type-words, p .fits), omega (arith, p .type-words, p .small, p .front))
 

@@ -14,9 +14,11 @@ use sample::TODAY;
 use sample::UNTIL;
 use sample::signature;
 use say::Said;
+use uses::Counted;
+use uses::uses;
 use words::verdict::Verdict;
 
-pub(crate) fn heading(text: &[u8]) {
+pub fn heading(text: &[u8]) {
     io::write_all(1, text);
     io::write_all(1, b"\n");
 }
@@ -57,7 +59,7 @@ fn print_verdict(example: &[u8], call: &[u8], verdict: Verdict) {
     io::write_all(1, b"\n");
 }
 
-pub(crate) fn open_line(example: &[u8], register: &mut [u32], rules: &[u32]) {
+pub fn open_line(example: &[u8], register: &mut [u32], rules: &[u32]) {
     let sig = signature();
     let mut ws = [0u32; LEAST_WORKSPACE];
     let verdict = open::open(&sig, OPERATIONS, register, rules, &mut ws);
@@ -65,7 +67,7 @@ pub(crate) fn open_line(example: &[u8], register: &mut [u32], rules: &[u32]) {
 }
 
 // A say for the days of the sample, on a day.
-pub(crate) fn say_line_on(
+pub fn say_line_on(
     example: &[u8],
     register: &mut [u32],
     day: u32,
@@ -99,11 +101,11 @@ pub(crate) fn say_line_on(
     io::write_all(1, b"\n");
 }
 
-pub(crate) fn say_line(example: &[u8], register: &mut [u32], principal: u32, proposition: &[u32]) {
+pub fn say_line(example: &[u8], register: &mut [u32], principal: u32, proposition: &[u32]) {
     say_line_on(example, register, TODAY, principal, proposition);
 }
 
-pub(crate) fn request_line_on(
+pub fn request_line_on(
     example: &[u8],
     register: &mut [u32],
     day: u32,
@@ -128,7 +130,7 @@ pub(crate) fn request_line_on(
     print_verdict(example, b"request", verdict);
 }
 
-pub(crate) fn request_line(
+pub fn request_line(
     example: &[u8],
     register: &mut [u32],
     operation: u32,
@@ -155,7 +157,7 @@ fn print_batched(example: &[u8], number: u32, place: usize, index: usize) {
     io::write_all(1, b"\n");
 }
 
-pub(crate) fn batch_line(example: &[u8], register: &mut [u32], items: &[u32]) {
+pub fn batch_line(example: &[u8], register: &mut [u32], items: &[u32]) {
     let sig = signature();
     let mut ws = [0u32; LEAST_WORKSPACE];
     let batched = batch::batch(&sig, OPERATIONS, register, TODAY, items, &mut ws);
@@ -170,7 +172,7 @@ pub(crate) fn batch_line(example: &[u8], register: &mut [u32], items: &[u32]) {
 }
 
 // A check with a signature, n, a day and a workspace of its own.
-pub(crate) fn check_line_with(
+pub fn check_line_with(
     example: &[u8],
     sig: &[u32],
     n: u32,
@@ -187,18 +189,18 @@ pub(crate) fn check_line_with(
     io::write_all(1, b"\n");
 }
 
-pub(crate) fn check_line_on(example: &[u8], register: &[u32], day: u32, term: &[u32]) {
+pub fn check_line_on(example: &[u8], register: &[u32], day: u32, term: &[u32]) {
     let sig = signature();
     let mut ws = [0u32; LEAST_WORKSPACE];
     check_line_with(example, &sig, OPERATIONS, register, day, term, &mut ws);
 }
 
-pub(crate) fn check_line(example: &[u8], register: &[u32], term: &[u32]) {
+pub fn check_line(example: &[u8], register: &[u32], term: &[u32]) {
     check_line_on(example, register, TODAY, term);
 }
 
 // The kind and the body after the answer, and no more than the answer where the read is refused.
-pub(crate) fn read_line(example: &[u8], register: &[u32], record: usize) {
+pub fn read_line(example: &[u8], register: &[u32], record: usize) {
     let mut kind = 0;
     let mut number = 0;
     let body = read_call::read(register, record, &mut kind, &mut number);
@@ -226,18 +228,32 @@ fn print_conversion(example: &[u8], call: &[u8], conversion: Conversion, output:
     io::write_all(1, b"\n");
 }
 
-pub(crate) fn to_named_line(example: &[u8], term: &[u32], output: &mut [u32]) {
+pub fn to_named_line(example: &[u8], term: &[u32], output: &mut [u32]) {
     let conversion = to_named(term, output);
     print_conversion(example, b"to_named", conversion, output);
 }
 
-pub(crate) fn from_named_line(example: &[u8], term: &[u32], output: &mut [u32]) {
+pub fn from_named_line(example: &[u8], term: &[u32], output: &mut [u32]) {
     let conversion = from_named(term, output);
     print_conversion(example, b"from_named", conversion, output);
 }
 
+// How many variables of a term stand free, from a number on.
+pub fn uses_line(example: &[u8], term: &[u32], from: u32) {
+    let counted = uses(term, from);
+    match counted {
+        Counted::Free(free) => {
+            print_answer(example, b"uses", 0, 0);
+            io::write_all(1, b" count ");
+            io::print_decimal(1, free as u64);
+        }
+        Counted::Refused { number, place } => print_answer(example, b"uses", number, place),
+    }
+    io::write_all(1, b"\n");
+}
+
 // The header of a register: its words used, its records and its latest day.
-pub(crate) fn counts_line(register: &[u32]) {
+pub fn counts_line(register: &[u32]) {
     if register.len() < HEADER {
         return;
     }

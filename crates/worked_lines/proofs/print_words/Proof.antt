@@ -2,8 +2,8 @@
 use Prim.Native.Nat.{_-_, _≤_}
 use lib.ListN.{length}
 use borrow.Author.Needs.{needs}
-use Rattle.worked.proofs.lines.print_words.Statement.{statement}
-use Rattle.worked.proofs.lines.print_words.Tie as tie
+use Rattle.worked_lines.proofs.print_words.Statement.{statement}
+use Rattle.worked_lines.proofs.print_words.Tie as tie
 
 abbrev Inv-loop : tie.InvT-loop
 Inv-loop words i₀ i = i ≤ length words
