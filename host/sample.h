@@ -49,6 +49,12 @@ static const uint32_t proof[] = { PROOF(7) };
 // a proof of what p proves that uses the receipt of extract k and delivery u too: Bind Sign0 App App C1 sk su p
 #define PROOF_BY_RECEIPT(k, u) BIND, SIGN(0), APP, APP, C(1), TEXT(k), TEXT(u), PROOF(k)
 
+// p with two parts that it does not need: Bind r once more before it, whose variable is unused, and what a3 says handed
+// to a Lam
+#define LONGER_PROOF \
+    BIND, SIGN(0), RULE, BIND, SIGN(0), RULE, APP, LAM, SAYS, NAME(3), OPENED(7), RET, NAME(0), APP, APP, APP, V(1), \
+        TEXT(7), NAME(3), V(0), SIGN(3), OPENED(7)
+
 // the least workspace
 static uint32_t workspace[12288];
 

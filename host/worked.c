@@ -1,5 +1,6 @@
 // Document 01's worked register, with days, by the calls of include/aura0.h: prints what each call answers, and lists
-// the records. Then a batch of two requests, p in the edition with named variables, and the uses of p's binder.
+// the records. Then a batch of two requests, p in the edition with named variables, the uses of p's binder, and a
+// longer proof simplified to p.
 #include <stdio.h>
 #include "sample.h"
 
@@ -129,6 +130,18 @@ static void uses(void)
     printf("free %zu and %zu\n", from_0, from_1);
 }
 
+// Longer p, with a budget, and a word less or more than the output needs.
+static void simplify(uint32_t *words, size_t length, const char *call, size_t budget, size_t room)
+{
+    static const uint32_t longer[] = { LONGER_PROOF };
+    uint32_t output[WORDS(proof) + 1];
+    size_t steps, written;
+    print(call, aura0_simplify(LIST(signature), OPERATIONS, words, length, DAY, LIST(longer), budget, output, room, LIST(workspace),
+                               &steps, &written));
+    printf("steps %zu\n", steps);
+    print_words("written", output, written);
+}
+
 int main(void)
 {
     // a request with p, and one whose proof uses the receipt of the first, in this order and in the other
@@ -168,5 +181,8 @@ int main(void)
 
     convert();
     uses();
+    simplify(words, 70, "longer p, one step", 1, WORDS(proof) + 1);
+    simplify(words, 70, "longer p, a word short", 2, WORDS(proof) - 1);
+    simplify(words, 70, "longer p", 2, WORDS(proof) + 1);
     return 0;
 }

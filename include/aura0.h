@@ -1,5 +1,5 @@
-// The calls of the permission register, the converters of the edition with named variables, and a count of free
-// variables, for programs in C. The library is target/staticlib/libhost.a; `bash host/run` builds it.
+// The calls of the permission register, simplified proofs, the converters of the edition with named variables, and a
+// count of free variables, for programs in C. The library is target/staticlib/libhost.a; `bash host/run` builds it.
 //
 // Each list of 32-bit words is lent as a pointer and a number of words; the pointer is not null, also where the
 // number is 0. Buffers that are written must not overlap any other buffer of the call.
@@ -46,9 +46,12 @@ enum {
     AURA0_PAST_LAST_RECORD = 17,    // read past the last record
     // document 02, slip 3: before every test of the table
     AURA0_OUT_OF_FORM = 21,         // an extract's list of homes, table of surveys or output out of form
-    // document 02, slip 6: of the two converters alone, after 6 to 8, in this order
+    // document 02, slip 6: of the two converters alone, after 6 to 8
     AURA0_UNBOUND = 24,             // unbound name or variable; place: the first such word
-    AURA0_OUTPUT_SHORT = 25         // output shorter than the term
+    // document 02, slip 9: of simplify alone, after check's tests, with 6 and 8 of a step's result
+    AURA0_STEP_REMAINS = 26,        // a step remains when the budget is used
+    // document 02, slips 6 and 9: of the converters and of simplify, last
+    AURA0_OUTPUT_SHORT = 25         // output shorter than what is to be written
 };
 
 // What stands for the code of a home without a survey.
@@ -56,7 +59,7 @@ enum {
 
 // A call takes less stack than this, in bytes; the frames of its caller are the host's own and come on top. No proof
 // speaks of the stack: tests/stack.c measures it. The deepest is the reading of 2,048 words App, each within the one
-// before, by a converter.
+// before, in a batch.
 #define AURA0_STACK 262144
 
 // The kinds of records.
@@ -123,6 +126,23 @@ uint64_t aura0_check(const uint32_t *signature, size_t signature_words, uint32_t
 uint64_t aura0_check_type(const uint32_t *signature, size_t signature_words, uint32_t n, const uint32_t *register_, size_t register_words,
                           uint32_t day, const uint32_t *term, size_t term_words,
                           uint32_t *workspace, size_t workspace_words, size_t *type_words);
+
+// Simplifies a proof for review: what it gives has the type of the term, without parts that are not needed. Check's
+// tests come first, as for aura0_check. Then steps are taken until none is left:
+//     App Lam d b e                                   becomes b, filled with e
+//     Bind Ret a e b                                  becomes b, filled with e
+//     Bind e b, where b does not use its binder,      becomes b, its free variables one lower
+// at the root, in the function of an App, the body of a Lam, the proof of a Ret and both children of a Bind, and not in
+// arguments, domains, principals, propositions or Signs. The first place in word order goes first. Where a step is left
+// and `budget` steps were taken it is 26 at 0, whatever the step would give; a step that gives over 2,048 words is 6 at
+// 0, and one that nests too deep is 8 at the first word at depth 33 of what it gives; at the end an output shorter than
+// the result is 25 at 0. 2,048 words always suffice. The result stands at the front of the output, whose words past it
+// are unchanged; a refusal writes nothing. *steps is how many steps were taken and *written how many words were
+// written, both 0 where refused. The register is not changed, and the day is check's (no 23).
+uint64_t aura0_simplify(const uint32_t *signature, size_t signature_words, uint32_t n, const uint32_t *register_, size_t register_words,
+                        uint32_t day, const uint32_t *term, size_t term_words, size_t budget,
+                        uint32_t *output, size_t output_words, uint32_t *workspace, size_t workspace_words,
+                        size_t *steps, size_t *written);
 
 // The edition with named variables. There a Pi, a Lam and a Bind have a name as payload, any number of 24 bits, and a
 // variable has a name for its number: it means the nearest binder with that name in whose body it stands. A domain, and

@@ -13,10 +13,10 @@
 enum { PAGE = 4096, PAINT = 0xa5 };
 enum { MOST_WORDS = 2048, MOST_CONSTANT_WORDS = 256, MOST_NESTING = 32, MOST_ITEMS = 16, HOMES = 1024, ROWS = 4096 };
 
-enum call { OPEN, SAY, REQUEST, BATCH, EXTRACT, CHECK, CHECK_TYPE, TO_NAMED, FROM_NAMED, USES, READ, CALLS };
+enum call { OPEN, SAY, REQUEST, BATCH, EXTRACT, CHECK, CHECK_TYPE, TO_NAMED, FROM_NAMED, USES, SIMPLIFY, READ, CALLS };
 static const char *const names[CALLS] = {
     "aura0_open", "aura0_say", "aura0_request", "aura0_batch", "aura0_extract", "aura0_check", "aura0_check_type",
-    "aura0_to_named", "aura0_from_named", "aura0_uses", "aura0_read"
+    "aura0_to_named", "aura0_from_named", "aura0_uses", "aura0_simplify", "aura0_read"
 };
 
 // an item with p
@@ -65,6 +65,8 @@ static uint64_t make(enum call call, const struct input *in)
         return aura0_from_named(LENT(in->proof), LIST(output), &length);
     case USES:
         return aura0_uses(LENT(in->proof), 0, &length);
+    case SIMPLIFY:
+        return aura0_simplify(STATE, DAY, LENT(in->proof), SIZE_MAX, LIST(output), LIST(workspace), &start, &length);
     default:
         return aura0_read(LIST(words), 5, &one, &start, &length);
     }
@@ -203,10 +205,10 @@ int main(void)
     // taken for names; Lams as deep as a term nests, with as many words as it has, of which the last Lam breaks its
     // rule; document 01's register
     static struct input inputs[] = {
-        { .name = "App", .numbers = { 7, 7, 7, 7, 7, 7, 7, 7, 7, 7 } },
-        { .name = "constant", .numbers = { 4, 4, 4, 4, 4, 4, 4, 7, 7, 7 } },
-        { .name = "derivation", .numbers = { 11, 11, 13, 13, 13, 0, 0, 0, 24, 0 } },
-        { .name = "Lam", .numbers = { 11, 11, 11, 11, 11, 11, 11, 0, 0, 0 } },
+        { .name = "App", .numbers = { 7, 7, 7, 7, 7, 7, 7, 7, 7, 7, 7 } },
+        { .name = "constant", .numbers = { 4, 4, 4, 4, 4, 4, 4, 7, 7, 7, 4 } },
+        { .name = "derivation", .numbers = { 11, 11, 13, 13, 13, 0, 0, 0, 24, 0, 0 } },
+        { .name = "Lam", .numbers = { 11, 11, 11, 11, 11, 11, 11, 0, 0, 0, 11 } },
         { .name = "sample", .numbers = { [FROM_NAMED] = 24 } },
     };
     struct input *reading = &inputs[0], *constant = &inputs[1], *derivation = &inputs[2], *lams = &inputs[3];

@@ -14,7 +14,7 @@
 #include "../include/aura0.h"
 
 // the level in force: requests 1 to LEVEL of document 02 (request 4 changed no answer, so it has no level of its own)
-enum { LEVEL = 8, MOST = 1 << 21, GUARD = 16, PATTERN = 0x5a5a5a5a };
+enum { LEVEL = 9, MOST = 1 << 21, GUARD = 16, PATTERN = 0x5a5a5a5a };
 
 // a lent list of words, with a guard behind it, and what it held before the call
 struct lent {
@@ -304,6 +304,18 @@ static int call(const char *line)
             stop("a type past the workspace");
         put("check %u %u", aura0_number(code), aura0_place(code));
         put_words(workspace.words, type_words);
+    } else if ((rest = after(line, "simplify")) != NULL) {
+        size_t words = read_number(&rest, MOST), steps = PATTERN, written = PATTERN;
+        uint32_t day = read_number(&rest, UINT32_MAX);
+        size_t budget = read_number(&rest, SIZE_MAX);
+        fill(&output, read_number(&rest, MOST), PATTERN);
+        keep(&output);
+        lend(words, rest);
+        uint64_t code = aura0_simplify(STATE, day, LENT(term), budget, LENT(output), LENT(workspace), &steps, &written);
+        take_back(NOTHING);
+        take_back_output(written);
+        put("simplify %u %u %zu", aura0_number(code), aura0_place(code), steps);
+        put_words(output.words, written);
     } else if ((rest = after(line, "read")) != NULL) {
         size_t record = read_number(&rest, SIZE_MAX), start = PATTERN, words = PATTERN;
         uint32_t kind = PATTERN;

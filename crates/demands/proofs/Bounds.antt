@@ -2,6 +2,7 @@
 use Rattle.register.proofs.Bounds.{check-bound, say-bound, request-bound, batch-bound, open-bound, read-bound}
 use Rattle.editions.proofs.Refuses.{converted-bound}
 use Rattle.uses.proofs.Demands.{uses-bound}
+use Rattle.reduction.proofs.Refuses.{simplify-bound}
 use Rattle.demands.specs.Bounds.{Bounds}
 
 pub bounds : Bounds
@@ -14,4 +15,5 @@ bounds = record {
   reads = read-bound;
   converts = converted-bound;
   counts = uses-bound;
+  simplifies = simplify-bound;
 }

@@ -14,10 +14,12 @@ use Rattle.extract.proofs.Histories.{desk-demand3}
 use Rattle.editions.proofs.Laws.{laws}
 use Rattle.editions.proofs.Refuses.{converters}
 use Rattle.uses.proofs.Demands.{uses-demand}
+use Rattle.reduction.proofs.Refuses.{simplify-demands}
+use Rattle.reduction.proofs.Laws.{simplify-laws}
 use Rattle.demands.specs.Demands.{Demands}
 use Rattle.demands.proofs.Fields.{demand1-fields, demand2-fields, extract-fields, converters-fields, demand3-fields, desk-demand3-fields}
 use Rattle.demands.proofs.Fields.{leaving-fields, stated-right-fields, verdicts-fields, lapses-fields, batches-fields, tested-once-fields}
-use Rattle.demands.proofs.Fields.{writing-step-fields, laws-fields, uses-fields}
+use Rattle.demands.proofs.Fields.{writing-step-fields, laws-fields, uses-fields, simplify-fields, step-laws-fields}
 use Rattle.demands.proofs.Logic.{word-laws, metatheory}
 use Rattle.demands.proofs.Bounds.{bounds}
 use Rattle.demands.proofs.Guards.{definition-guards}
@@ -29,6 +31,7 @@ demands = record {
   extracts = λ l reg k hs t room. extract-fields (extract-demands l reg k hs t room);
   converts = converters-fields converters;
   counts = uses-fields uses-demand;
+  simplifies = simplify-fields simplify-demands;
   lists = λ s w given rule-words rules calls e. let (r, l, d) = demand3 s w given rule-words rules calls e in (r, l, demand3-fields d);
   desk-lists = λ s w given rule-words rules calls e. desk-demand3-fields (desk-demand3 s w given rule-words rules calls e);
   leaves = leaving-fields leaving;
@@ -40,6 +43,7 @@ demands = record {
   once = tested-once-fields tested-once;
   writes = writing-step-fields writing-step;
   laws = laws-fields laws;
+  steps = step-laws-fields simplify-laws;
   words = word-laws;
   metatheory = metatheory;
   guards = definition-guards;

@@ -19,6 +19,8 @@ use Rattle.extract.specs.Desk.{DeskCall, DeskDemand}
 use Rattle.editions.specs.Laws.{Laws}
 use Rattle.editions.specs.Refuses.{ConvertersDemand}
 use Rattle.uses.specs.Demands.{UsesDemand}
+use Rattle.reduction.specs.Refuses.{SimplifyDemands}
+use Rattle.reduction.specs.Laws.{SimplifyLaws}
 
 -- ---- answers, and what calls leave
 
@@ -99,6 +101,13 @@ pub uses-fields : UsesDemand → UsesDemand
 uses-fields d = record {
   answers = λ k ws. answers-fields (d .answers k ws);
   differ = d .differ;
+}
+
+pub simplify-fields : SimplifyDemands → SimplifyDemands
+simplify-fields d = record {
+  answers = λ l reg day ws budget room. answers-fields (d .answers l reg day ws budget room);
+  unchanged = d .unchanged;
+  written = d .written;
 }
 
 -- ---- the third demand
@@ -220,4 +229,21 @@ laws-fields t = record {
   closed = t .closed;
   back-words = t .back-words;
   checked = t .checked;
+}
+
+pub step-laws-fields : SimplifyLaws → SimplifyLaws
+step-laws-fields t = record {
+  finds-first = t .finds-first;
+  finds-none = t .finds-none;
+  one-first = t .one-first;
+  settles = t .settles;
+  stands = t .stands;
+  stepped-at = t .stepped-at;
+  gives = t .gives;
+  refuses = t .refuses;
+  same-type = t .same-type;
+  signs = t .signs;
+  well-formed = t .well-formed;
+  checks = t .checks;
+  grants = t .grants;
 }

@@ -16,6 +16,7 @@ use Rattle.homes.proofs.Guards.{homes-guards}
 use Rattle.extract.proofs.Guards.{extract-guards}
 use Rattle.editions.proofs.Guards.{named-guards}
 use Rattle.uses.proofs.Guards.{uses-guards}
+use Rattle.reduction.proofs.Guards.{simplify-guards}
 use Rattle.demands.specs.Guards.{DefinitionGuards}
 
 pub definition-guards : DefinitionGuards
@@ -39,4 +40,5 @@ definition-guards = record {
   batches = batch-guards;
   free-variables = free-examples;
   counts = uses-guards;
+  simplified = simplify-guards;
 }

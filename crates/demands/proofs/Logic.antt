@@ -10,6 +10,7 @@ use Rattle.logic.proofs.Regularity.{regular}
 use Rattle.logic.proofs.Proposition.{proposition-right}
 use Rattle.logic.proofs.Completeness.{infer-right}
 use Rattle.logic.proofs.Faults.{infer-refused}
+use Rattle.logic.proofs.Derivable.{derivable-long}
 use Rattle.logic.proofs.Places.{fault}
 use Rattle.logic.proofs.SubjectReduction.{subject-reduction}
 use Rattle.logic.proofs.Reading.{read-right}
@@ -36,6 +37,7 @@ pub metatheory : (Σ : List Term) → Signature Σ → Metatheory Σ
 metatheory Σ sig = record {
   infers = infer-right Σ sig;
   faults = infer-refused Σ sig;
+  derivable = derivable-long;
   places = fault Σ;
   term-passes = check-term-right Σ sig;
   term-refused = check-term-refused Σ sig;

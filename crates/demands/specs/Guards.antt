@@ -19,6 +19,7 @@ use Rattle.homes.specs.Guards.{HomesGuards}
 use Rattle.extract.specs.Guards.{ExtractGuards}
 use Rattle.editions.specs.Guards.{NamedGuards}
 use Rattle.uses.specs.Guards.{UsesGuards}
+use Rattle.reduction.specs.Guards.{SimplifyGuards}
 
 pub record DefinitionGuards : Type 0 where
   -- every number of the documents; document 01's starred proofs and its worked register
@@ -32,7 +33,7 @@ pub record DefinitionGuards : Type 0 where
   pub shapes : Shape
   -- lists of calls
   pub histories : HistoryGuards
-  -- document 02's slips 1, 2, 3 and 5 to 8
+  -- document 02's slips 1, 2, 3 and 5 to 9
   pub whole-property : WholeProperty
   pub separate-refusals : (Σ : List Term) → Signature Σ → SeparateRefusals Σ
   pub separate-examples : SeparateExamples
@@ -44,3 +45,4 @@ pub record DefinitionGuards : Type 0 where
   pub batches : BatchGuards
   pub free-variables : FreeExamples
   pub counts : UsesGuards
+  pub simplified : SimplifyGuards

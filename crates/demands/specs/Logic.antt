@@ -7,7 +7,7 @@ use mathlib.Core.List.{List, [], _∷_, _++_}
 use mathlib.Core.Option.{Option, some}
 use lib.IntN.{pos}
 use lib.ListN.{length}
-use Rattle.logic.specs.Refusals.{malformed, bad-signature}
+use Rattle.logic.specs.Refusals.{malformed, bad-signature, type-too-long}
 use Rattle.logic.specs.Result.{ok, refused}
 use Rattle.logic.specs.Term.{Term, P, KindP, KindT, encode}
 use Rattle.logic.specs.Move.{shift, raise, lower, fill, fill-at, occurs}
@@ -45,6 +45,8 @@ pub record Metatheory (Σ : List Term) : Type 0 where
   pub infers : {Γ : List Term} {t A : Term} (at : ℕ) → Context Σ Γ → (infer Σ Γ at t ≡ ok A) ↔ HasMeasured Σ Γ t A
   pub faults : (t : Term) {Γ : List Term} {m p : ℕ} (at : ℕ) → Context Σ Γ → Plain t →
       (infer Σ Γ at t ≡ refused m p) ↔ ((i : ℕ) × Faults Σ Γ t m i × (p ≡ at + i))
+  -- a term that has a derivation is refused by 12 alone
+  pub derivable : {Γ : List Term} {t A : Term} {m i : ℕ} → Has Σ Γ t A → Faults Σ Γ t m i → m ≡ type-too-long
   -- the place of a refusal is that of a node, of any term
   pub places : (t : Term) (Γ : List Term) (at : ℕ) {m p : ℕ} → infer Σ Γ at t ≡ refused m p → Fault at t p
   -- tests 6 to 12 pass exactly for words of a term that passes, and refuse exactly by a row of the relation; as a

@@ -1,5 +1,5 @@
 -- The two converters answer as one, and their first demand.
-use Prim.Native.Nat.{ℕ, _+_, _≤_}
+use Prim.Native.Nat.{ℕ, _≤_}
 use mathlib.Core.Path.{_≡_, refl, sym, ap, subst, _∙_}
 use mathlib.Core.Logic.{_↔_}
 use mathlib.Core.Bool.{Bool, true, false}
@@ -9,15 +9,15 @@ use lib.ListN.{length, drop}
 use borrow.Author.Tests.{leb-true, leb-false, le-leb, lt-leb}
 use native.Mathlib.Omega.{arith}
 use Rattle.logic.specs.Limits.{most-words, most-nesting}
-use Rattle.logic.specs.Refusals.{unbound, last-refusal}
+use Rattle.logic.specs.Refusals.{term-length, unbound, output-short}
 use Rattle.logic.specs.Result.{Result, ok, refused, _>>=_}
 use Rattle.logic.specs.Term.{Term, binds, encode}
 use Rattle.logic.specs.Check.{term-of}
 use Rattle.logic.proofs.Searches.{stands-within}
 use Rattle.logic.proofs.Results.{ok-inj, bound, tested, bind-is, pass}
 use Rattle.logic.proofs.Stopped.{not-refused, stopped, failed, stop, fail, one-answer}
-use Rattle.words.specs.Place.{written-at, after-write}
-use Rattle.words.proofs.Lists.{drop-behind}
+use Rattle.words.specs.Place.{after-write}
+use Rattle.words.proofs.Lists.{written-behind}
 use Rattle.editions.specs.Named.{Named, sign′, encode′, label, counted, erased}
 use Rattle.editions.specs.Edition.{other, WordsOf′, edition-term}
 use Rattle.editions.specs.Convert.{relabel, convert, unname, fitting, from-named, to-named, converted}
@@ -137,24 +137,24 @@ module _ (e : Edition) (ws : List ℕ) (room : ℕ) where
   in-turn-refused m p = (right-refused m p, refused-right)
 
 -- every refusal has one of the numbers, and a place within the term's words or just behind them
-pub converted-bound : (e : Edition) (ws : List ℕ) (room m p : ℕ) → converted e ws room ≡ refused m p → (m ≤ last-refusal) × (p ≤ length ws)
+pub converted-bound : (e : Edition) (ws : List ℕ) (room m p : ℕ) → converted e ws room ≡ refused m p →
+    (term-length ≤ m) × (m ≤ output-short) × (p ≤ length ws)
 converted-bound e ws room m p z = go (in-turn-refused e ws room m p .0 (sym (converted-is e ws room) ∙ z))
   where
-    go : {m p : ℕ} → ConvertRefused e ws room m p → (m ≤ last-refusal) × (p ≤ length ws)
-    go (convert-6 l) = (omega arith, omega arith)
-    go (convert-7 l M) = (omega arith, M .within)
+    go : {m p : ℕ} → ConvertRefused e ws room m p → (term-length ≤ m) × (m ≤ output-short) × (p ≤ length ws)
+    go (convert-6 l) = (omega arith, omega arith, omega arith)
+    go (convert-7 l M) = (omega arith, omega arith, M .within)
     go (convert-8 l D) =
         let (i, d) = stands-within (D .first .deep) in
-        (omega arith, omega (arith, D .first .place, erased-size (D .s), encode-size′ (D .s), ap length (D .words)))
-    go (convert-24 {s} w F) = let l = variable-within (F .stands) in (omega arith, omega (arith, encode-size′ s, ap length (w .words)))
-    go (convert-25 w b l) = (omega arith, omega arith)
+        (omega arith, omega arith, omega (arith, D .first .place, erased-size (D .s), encode-size′ (D .s), ap length (D .words)))
+    go (convert-24 {s} w F) = let l = variable-within (F .stands) in (omega arith, omega arith, omega (arith, encode-size′ s, ap length (w .words)))
+    go (convert-25 w b l) = (omega arith, omega arith, omega arith)
 
 past : (e : Edition) (ws xs old : List ℕ) → converted e ws (length old) ≡ ok xs →
     (length xs ≡ length ws) × (drop (length ws) (after-write (converted e ws (length old)) old) ≡ drop (length ws) old)
 past e ws xs old z =
     let l = in-turn-length e ws (length old) xs (sym (converted-is e ws (length old)) ∙ z) in
-    let k : 0 + length xs + 0 ≡ length ws = omega arith in
-    (l, ap (λ r. drop (length ws) (after-write r old)) z ∙ subst (λ n. drop n (written-at old 0 xs) ≡ drop n old) k (drop-behind old 0 xs 0 (omega arith)))
+    (l, written-behind old _ xs (length ws) (ap (λ r. after-write r old) z) (sym l))
 
 pub converters : ConvertersDemand
 converters = record {

@@ -2,13 +2,15 @@
 use Prim.Native.Nat.{ℕ, _+_, _*_, _≤_, _<_}
 use native.Mathlib.Omega.{arith}
 use mathlib.Core.Path.{_≡_, refl, sym, ap, _∙_}
+use mathlib.Core.Logic.{inl, inr}
 use mathlib.Core.Bool.{Bool}
 use mathlib.Core.List.{List}
 use lib.ListN.{length}
 use lib.Seq.{length-take-le}
 use Rattle.logic.specs.Refusals.{last-refusal}
 use Rattle.logic.specs.Result.{Result, ok, refused, number-of, place-of, without-value}
-use Rattle.logic.specs.Term.{Term}
+use Rattle.logic.specs.Term.{Term, size}
+use Rattle.logic.proofs.Words.{encode-size}
 use Rattle.logic.proofs.Results.{ok-inj, bound}
 use Rattle.logic.proofs.Stopped.{not-mapped}
 use Rattle.rules.specs.declared.derivation.Derivation.{Derivation}
@@ -43,8 +45,14 @@ use Rattle.uses.specs.declared.Counted.the-variants.{Free, Refused as CountRefu
 use Rattle.uses.proofs.Demands.{uses-bound}
 use Rattle.extract.specs.Extract.{extract-call}
 use Rattle.extract.proofs.Demands.{extract-bound}
+use Rattle.reduction.specs.Simplify.{Simplified}
+use Rattle.reduction.specs.Call.{result-words, simplify-call}
+use Rattle.reduction.proofs.Refuses.{simplify-bound}
+use Rattle.simplify.specs.Answers.{simplification-answer, SimplifiedAs}
+use Rattle.simplify.specs.declared.reduce.Simplification.{Simplification}
+use Rattle.simplify.specs.declared.reduce.Simplification.the-variants.{Done, Refused as SimplifyRefused}
 use Rattle.host.specs.Answers.{number-unit, place-limit, code-of, added-of, SaidTo, batch-code-of, index-of, BatchedTo}
-use Rattle.host.specs.Answers.{written-of, ConvertedTo, count-of, CountedTo, TypedTo}
+use Rattle.host.specs.Answers.{written-of, ConvertedTo, count-of, CountedTo, steps-of, SimplifiedTo, TypedTo}
 
 -- a number and a place that make up an answer
 abbrev pub Fits : ℕ → ℕ → Type 0
@@ -126,7 +134,7 @@ module _ (o : Result (List ℕ)) (old new : List ℕ) (r : Conversion) (C : Conv
       record { answer = refused-code o m p code e c; output = C .output; written-is = sym (ap written-of e) }
 
 pub convert-fits : (e : Edition) (ws : List ℕ) (room m p : ℕ) → length ws < place-limit → converted e ws room ≡ refused m p → Fits m p
-convert-fits e ws room m p h r = let (n, l) = converted-bound e ws room m p r in omega arith
+convert-fits e ws room m p h r = let (a, b, l) = converted-bound e ws room m p r in omega arith
 
 -- ---- uses
 
@@ -142,6 +150,37 @@ module _ (o : Result ℕ) (r : Counted) (e : counted-answer r ≡ o) where
 
 pub uses-fits : (k : ℕ) (ws : List ℕ) (m p : ℕ) → length ws < place-limit → uses-call k ws ≡ refused m p → Fits m p
 uses-fits k ws m p h r = let (a, b, l) = uses-bound k ws m p r in omega arith
+
+-- ---- simplify
+
+module _ (o : Result Simplified) (old new : List ℕ) (r : Simplification) (S : SimplifiedAs o old new r) where
+  pub simplified-to : (steps words : ℕ) → r ≡ Done steps words → SimplifiedTo o old new steps words 0
+  simplified-to steps words q = bound o (λ s. ok (s .steps, size (s .result))) (sym (S .answer) ∙ ap simplification-answer q) λ s e f.
+      let g = ok-inj f in
+      record {
+        answer = ap code-of (sym e);
+        output = S .output;
+        steps-are = sym (ap steps-of e ∙ ap (λ (x : ℕ × ℕ). x .0) g);
+        written-is = sym (ap (λ x. written-of (result-words x)) e ∙ encode-size (s .result) ∙ ap (λ (x : ℕ × ℕ). x .1) g);
+      }
+
+  pub unsimplified-is : (m p : ℕ) → r ≡ SimplifyRefused m p → o ≡ refused m p
+  unsimplified-is m p q = not-mapped (λ s. (s .steps, size (s .result))) o (sym (S .answer) ∙ ap simplification-answer q)
+
+  pub not-simplified : (m p : ℕ) → r ≡ SimplifyRefused m p → (code : ℕ) → code ≡ m * number-unit + p → SimplifiedTo o old new 0 0 code
+  not-simplified m p q code c =
+      let e = unsimplified-is m p q in
+      record {
+        answer = refused-code o m p code e c;
+        output = S .output;
+        steps-are = sym (ap steps-of e);
+        written-is = sym (ap (λ x. written-of (result-words x)) e);
+      }
+
+pub simplify-fits : (l : Lent) (reg : List ℕ) (day : ℕ) (ws : List ℕ) (budget room m p : ℕ) → length (l .sig) + length ws < place-limit →
+    simplify-call l reg day ws budget room ≡ refused m p → Fits m p
+simplify-fits l reg day ws budget room m p h e =
+    let (n, q) = simplify-bound l reg day ws budget room e in elim q [ inl k ↦ omega arith | inr (k, i) ↦ omega arith ]
 
 -- ---- say
 

@@ -15,6 +15,8 @@ paper-host = record {
   not-written = λ m p. refl;
   counted = λ n. refl;
   not-counted = λ m p. refl;
+  stepped = λ s. refl;
+  not-stepped = λ m p. refl;
   item = λ i m p. refl;
   no-item = refl;
 }

@@ -11,6 +11,8 @@ use Rattle.register.specs.Calls.{Lent, open-call, after-open, say-call, after-s
 use Rattle.register.specs.Batch.{Batched, all-granted, refused-at, batch-call, batch-leaves}
 use Rattle.words.specs.Place.{after-write}
 use Rattle.extract.specs.Extract.{extract-call}
+use Rattle.reduction.specs.Simplify.{Simplified}
+use Rattle.reduction.specs.Call.{result-words, after-simplify}
 
 -- "the refusal number times 4294967296 plus the place"
 abbrev pub number-unit : ℕ
@@ -83,6 +85,17 @@ count-of (refused m p) = 0
 pub record CountedTo (o : Result ℕ) (count code : ℕ) : Type 0 where
   pub answer : code ≡ code-of o
   pub count-is : count ≡ count-of o
+
+-- a simplified term: also the output, and how many steps were taken and how many words written, both 0 where refused
+abbrev pub steps-of : Result Simplified → ℕ
+steps-of (ok s) = s .steps
+steps-of (refused m p) = 0
+
+pub record SimplifiedTo (o : Result Simplified) (old out : List ℕ) (steps written code : ℕ) : Type 0 where
+  pub answer : code ≡ code-of o
+  pub output : out ≡ after-simplify o old
+  pub steps-are : steps ≡ steps-of o
+  pub written-is : written ≡ written-of (result-words o)
 
 -- a check that tells where the type stands: the first words of the workspace, none where refused
 pub record TypedTo (o : Result Term) (workspace : List ℕ) (words code : ℕ) : Type 0 where

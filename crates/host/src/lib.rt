@@ -16,6 +16,8 @@ use request::request;
 use rules::derivation::Derivation;
 use say::Said;
 use say::say;
+use simplify::reduce::Simplification;
+use simplify::simplify;
 use uses::Counted;
 use uses::uses;
 use words::verdict::Verdict;
@@ -28,8 +30,9 @@ ghost use Rattle.register.specs.Calls.{check-call};
 ghost use Rattle.shared_tests.specs.Shared.{lent-of};
 ghost use Rattle.editions.specs.Convert.{from-named, to-named};
 ghost use Rattle.uses.specs.Uses.{uses-call};
+ghost use Rattle.reduction.specs.Call.{simplify-call};
 ghost use Rattle.host.specs.Answers.{number-unit, place-limit, code-of};
-ghost use Rattle.host.specs.Answers.{OpenedTo, SaidTo, RequestedTo, BatchedTo, ExtractedTo, ConvertedTo, CountedTo, TypedTo, ReadTo};
+ghost use Rattle.host.specs.Answers.{OpenedTo, SaidTo, RequestedTo, BatchedTo, ExtractedTo, ConvertedTo, CountedTo, SimplifiedTo, TypedTo, ReadTo};
 
 // What a refusal's number is multiplied by.
 const NUMBER_UNIT: u64 = 4294967296;
@@ -259,6 +262,41 @@ pub extern "C" fn aura0_check_type(
         }
         Derivation::Refused { number, place } => {
             *type_words = 0;
+            code(number, place)
+        }
+    }
+}
+
+// Simplify: `steps` is how many steps were taken and `written` how many words, both 0 where refused.
+#[no_mangle]
+pub extern "C" fn aura0_simplify(
+    signature: &[u32],
+    n: u32,
+    register: &[u32],
+    day: u32,
+    term: &[u32],
+    budget: usize,
+    output: &mut [u32],
+    workspace: &mut [u32],
+    steps: &mut usize,
+    written: &mut usize,
+) -> u64
+    ensures { λ r. ⌜ SimplifiedTo (simplify-call (lent-of (now (signature .entry)) n (now (workspace .entry))) (now (register .entry)) day
+        (now (term .entry)) budget (length (now (output .entry)))) (now (output .entry)) (now (output .exit)) (now (steps .exit)) (now (written .exit)) r ⌝ }
+{
+    let simplified = simplify(signature, n, register, day, term, budget, output, workspace);
+    match simplified {
+        Simplification::Done {
+            steps: taken,
+            words,
+        } => {
+            *steps = taken;
+            *written = words;
+            0
+        }
+        Simplification::Refused { number, place } => {
+            *steps = 0;
+            *written = 0;
             code(number, place)
         }
     }

@@ -40,7 +40,7 @@ use Rattle.register.proofs.Opening.{next-rule-rest}
 use Rattle.register.proofs.Batch.{next-item-rest}
 
 -- a refusal number of document 01 or 02, of a call on the register: 21 is the extract desk's alone, and those above 23
--- are of calls without a register
+-- are the converters' and simplify's
 abbrev pub Number : ℕ → Type 0
 Number m = (1 ≤ m) × (m ≤ day-before-latest) × (m ≢ out-of-form)
 

@@ -109,13 +109,52 @@ pub fn rules() -> [u32; 17] {
     words
 }
 
+// Bind r, and what is behind it.
+fn bind_rule() -> [u32; 15] {
+    let head = [BIND, SIGN_0];
+    let proposition = rule();
+    let mut words = [0u32; 15];
+    lay(&head, &proposition, &mut words);
+    words
+}
+
 // p = Bind r Ret a0 App App App V0 s7 a3 Sign3 App C2 s7.
 pub fn proof() -> [u32; 27] {
-    let proposition = rule();
+    let first = bind_rule();
     let body = [RET, A0, APP, APP, APP, V0, S7, A3, SIGN3, APP, C2, S7];
-    let mut words = [BIND; 27];
-    words[1] = SIGN_0;
-    lay(&proposition, &body, &mut words[2..]);
+    let mut words = [0u32; 27];
+    lay(&first, &body, &mut words);
+    words
+}
+
+// p with two parts that it does not need: Bind r once more before it, whose variable is unused, and what a3 says handed
+// to a Lam. Bind r Bind r App Lam Says a3 App C2 s7 Ret a0 App App App V1 s7 a3 V0 Sign3 App C2 s7.
+pub fn longer_proof() -> [u32; 50] {
+    let first = bind_rule();
+    let body = [
+        APP,
+        LAM,
+        SAYS,
+        A3,
+        APP,
+        C2,
+        S7,
+        RET,
+        A0,
+        APP,
+        APP,
+        APP,
+        V1,
+        S7,
+        A3,
+        V0,
+        SIGN3,
+        APP,
+        C2,
+        S7,
+    ];
+    let mut words = [0u32; 50];
+    lay(&first, &body, &mut words);
     words
 }
 

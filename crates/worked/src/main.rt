@@ -2,10 +2,6 @@
 // register, and prints a line for each.
 use logic::limit::LEAST_WORKSPACE;
 use logic::word::APP;
-use logic::word::LAM;
-use logic::word::PI;
-use logic::word::PRIN;
-use logic::word::SAYS;
 use sample::A0;
 use sample::A3;
 use sample::C0;
@@ -38,7 +34,6 @@ use worked_lines::check_line;
 use worked_lines::check_line_on;
 use worked_lines::check_line_with;
 use worked_lines::counts_line;
-use worked_lines::from_named_line;
 use worked_lines::heading;
 use worked_lines::open_line;
 use worked_lines::read_line;
@@ -46,8 +41,9 @@ use worked_lines::request_line;
 use worked_lines::request_line_on;
 use worked_lines::say_line;
 use worked_lines::say_line_on;
-use worked_lines::to_named_line;
-use worked_lines::uses_line;
+use worked_terms::names;
+use worked_terms::simplified;
+use worked_terms::uses;
 
 // "Rule r, a3 says App C2 s7": how each register here begins.
 fn begin(register: &mut [u32]) {
@@ -250,30 +246,6 @@ fn lapses(register: &mut [u32; 70]) {
     check_days(register);
 }
 
-// Document 02, slip 6: p with names, and p again.
-fn names() {
-    heading(b"The edition with named variables");
-    let p = proof();
-    let mut named = [0u32; 27];
-    to_named_line(b"p", &p, &mut named);
-    let mut back = [0u32; 27];
-    from_named_line(b"p with names", &named, &mut back);
-    let mut short = [0u32; 26];
-    to_named_line(b"25, p into 26 words", &p, &mut short);
-    nearest();
-}
-
-// "a name means the nearest binder that carries it"; a domain is not in the body.
-fn nearest() {
-    let mut words = [0u32; 5];
-    let twice = [LAM + 5, P, LAM + 5, V0 + 5, V0 + 5];
-    from_named_line(b"Lam5 P Lam5 V5 V5", &twice, &mut words);
-    let domain = [PI + 1, V0 + 1, P];
-    from_named_line(b"24, Pi1 V1 P", &domain, &mut words);
-    let signed = [LAM + 1, S, SIGN3, V0 + 1];
-    from_named_line(b"24, Lam1 S Sign3 V1", &signed, &mut words);
-}
-
 // Document 02, slip 7: a batch of two requests, the second with a proof that uses the receipt of the first; before it
 // the same in the other order.
 fn batches(register: &mut [u32; 118]) {
@@ -297,24 +269,6 @@ fn short_batch(register: &mut [u32; 117]) {
     counts_line(register);
 }
 
-// Document 02, slip 8: "Counted from a body's variable 0 on and from 1 on, the two differ by the uses of its binder".
-// Of r's proposition Pi S Pi N Pi Says V0 App C2 V1 App C0 V2 the string is used twice, and what it asks for is not.
-fn uses() {
-    heading(b"The uses of binders");
-    let string = [PI, PRIN, PI, SAYS, V0, APP, C2, V0 + 1, APP, C0, V0 + 2];
-    uses_line(b"the body of Pi S, from 0 on", &string, 0);
-    uses_line(b"the body of Pi S, from 1 on", &string, 1);
-    let asked = [APP, C0, V0 + 2];
-    uses_line(b"the body of Pi Says V0 App C2 V1, from 0 on", &asked, 0);
-    uses_line(b"the body of Pi Says V0 App C2 V1, from 1 on", &asked, 1);
-    let p = proof();
-    uses_line(b"p, from 0 on", &p, 0);
-    let signed = [APP, SIGN3, V0, V0];
-    uses_line(b"App Sign3 V0 V0, from 0 on", &signed, 0);
-    let cut = [APP, C0];
-    uses_line(b"7, App C0", &cut, 0);
-}
-
 fn main() {
     let mut granted = [0u32; 70];
     grant(&mut granted);
@@ -334,4 +288,5 @@ fn main() {
     let mut one = [0u32; 117];
     short_batch(&mut one);
     uses();
+    simplified(&granted);
 }

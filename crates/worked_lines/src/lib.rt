@@ -14,6 +14,7 @@ use sample::TODAY;
 use sample::UNTIL;
 use sample::signature;
 use say::Said;
+use simplify::reduce::Simplification;
 use uses::Counted;
 use uses::uses;
 use words::verdict::Verdict;
@@ -248,6 +249,42 @@ pub fn uses_line(example: &[u8], term: &[u32], from: u32) {
             io::print_decimal(1, free as u64);
         }
         Counted::Refused { number, place } => print_answer(example, b"uses", number, place),
+    }
+    io::write_all(1, b"\n");
+}
+
+// The steps taken and the output after the answer, and no more than the answer where it is refused.
+pub fn simplify_line(
+    example: &[u8],
+    register: &[u32],
+    term: &[u32],
+    budget: usize,
+    output: &mut [u32],
+) {
+    let sig = signature();
+    let mut ws = [0u32; LEAST_WORKSPACE];
+    let simplified = simplify::simplify(
+        &sig,
+        OPERATIONS,
+        register,
+        TODAY,
+        term,
+        budget,
+        output,
+        &mut ws,
+    );
+    match simplified {
+        Simplification::Done { steps, words } => {
+            print_answer(example, b"simplify", 0, 0);
+            io::write_all(1, b" steps ");
+            io::print_decimal(1, steps as u64);
+            io::write_all(1, b" words ");
+            io::print_decimal(1, words as u64);
+            print_words(output);
+        }
+        Simplification::Refused { number, place } => {
+            print_answer(example, b"simplify", number, place)
+        }
     }
     io::write_all(1, b"\n");
 }
