@@ -77,7 +77,7 @@ static int compare(const char *which, uint32_t step)
 
 int main(void)
 {
-    want(aura0_open(LIST(signature), OPERATIONS, LIST(history), LIST(rules), LIST(workspace)));
+    want(aura0_open(LIST(signature), OPERATIONS, AURA0_RELEASE, LIST(history), NO_MARKS, LIST(rules), LIST(workspace)));
     for (uint32_t k = 0; k < HISTORY; k++) {
         say(history, k);
         request(history, k);

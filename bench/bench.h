@@ -35,6 +35,9 @@ static inline void want(uint64_t answer)
 // records. The register is the longest there is.
 enum { HISTORY = 1000, REGISTER_WORDS = 1048576 };
 
+// the words of a register's header
+enum { HEADER = 4 };
+
 // a3 says App C2 sk; nanoseconds
 static inline double say(uint32_t words[REGISTER_WORDS], uint32_t k)
 {

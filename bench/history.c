@@ -4,8 +4,6 @@
 #include <string.h>
 #include "bench.h"
 
-enum { HEADER = 3 };
-
 static uint32_t words[REGISTER_WORDS];
 
 int main(void)
@@ -14,7 +12,7 @@ int main(void)
     uint32_t header[HEADER];
     for (int round = 0; round < ROUNDS; round++) {
         double says = 0, requests = 0;
-        want(aura0_open(LIST(signature), OPERATIONS, LIST(words), LIST(rules), LIST(workspace)));
+        want(aura0_open(LIST(signature), OPERATIONS, AURA0_RELEASE, LIST(words), NO_MARKS, LIST(rules), LIST(workspace)));
         for (uint32_t k = 0; k < HISTORY; k++) {
             says += say(words, k);
             requests += request(words, k);

@@ -99,7 +99,7 @@ int main(void)
     static const uint32_t longer[] = { LONGER_PROOF }, said[] = { Q };
     static uint32_t nested[NESTED_WORDS];
     uint32_t added;
-    want(aura0_open(LIST(signature), OPERATIONS, LIST(words), LIST(rules), LIST(workspace)));
+    want(aura0_open(LIST(signature), OPERATIONS, AURA0_RELEASE, LIST(words), NO_MARKS, LIST(rules), LIST(workspace)));
     want(aura0_say(LIST(signature), OPERATIONS, LIST(words), DAY, 3, SAY_FIRST, SAY_LAST, LIST(proposition),
                    LIST(workspace), &added));
     want(aura0_say(LIST(signature), OPERATIONS, LIST(words), DAY, 3, SAY_FIRST, SAY_LAST, LIST(said), LIST(workspace),

@@ -58,4 +58,7 @@ static const uint32_t proof[] = { PROOF(7) };
 // the least workspace
 static uint32_t workspace[12288];
 
+// no marks, for a register that is never returned
+#define NO_MARKS (uint32_t[]){ 0 }, 0
+
 #endif

@@ -1,6 +1,6 @@
 // Document 01's worked register, with days, by the calls of include/aura0.h: prints what each call answers, and lists
-// the records. Then a batch of two requests, p in the edition with named variables, the uses of p's binder, and a
-// longer proof simplified to p.
+// the records. Then a batch of two requests, a trial register that is returned to a mark, p in the edition with named
+// variables, the uses of p's binder, and a longer proof simplified to p.
 #include <stdio.h>
 #include "sample.h"
 
@@ -46,7 +46,7 @@ static void request(uint32_t *words, size_t length, uint32_t day)
 static void start(uint32_t *words, size_t length)
 {
     printf("a register of %zu words\n", length);
-    print("open", aura0_open(LIST(signature), OPERATIONS, words, length, LIST(rules), LIST(workspace)));
+    print("open", aura0_open(LIST(signature), OPERATIONS, AURA0_RELEASE, words, length, NO_MARKS, LIST(rules), LIST(workspace)));
     say(words, length, DAY);
 }
 
@@ -101,6 +101,24 @@ static void list(const uint32_t *words, size_t length)
     }
 }
 
+// A mark behind the say, a request, the return to the mark, and the request on its old day.
+static void try_out(uint32_t *words, size_t length)
+{
+    uint32_t marks[AURA0_MARK_LIST] = { 9 };
+    printf("a register of %zu words, for trial\n", length);
+    print("open", aura0_open(LIST(signature), OPERATIONS, AURA0_TRIAL, words, length, LIST(marks), LIST(rules), LIST(workspace)));
+    say(words, length, DAY);
+    print("mark 5", aura0_mark(words, length, LIST(marks), 5));
+    request(words, length, SAY_LAST);
+    print("mark 6", aura0_mark(words, length, LIST(marks), 6));
+    print_words("marks", marks, 1 + 4 * marks[0]);
+    print("return 5", aura0_return(words, length, LIST(marks), 5));
+    printf("words used %u, latest day %u\n", words[0], words[2]);
+    print_words("marks", marks, 1 + 4 * marks[0]);
+    print("return 6", aura0_return(words, length, LIST(marks), 6));
+    request(words, length, DAY);
+}
+
 // p into names, first into an output of a word less; back; and p itself taken for a term with names.
 static void convert(void)
 {
@@ -147,42 +165,44 @@ int main(void)
     // a request with p, and one whose proof uses the receipt of the first, in this order and in the other
     static const uint32_t in_turn[] = { ITEM(7, 9, PROOF(7)), ITEM(7, 10, PROOF_BY_RECEIPT(7, 9)) };
     static const uint32_t other_order[] = { ITEM(7, 10, PROOF_BY_RECEIPT(7, 9)), ITEM(7, 9, PROOF(7)) };
-    static uint32_t words[70], fewer[69], more[111], both[118], one[117];
+    static uint32_t words[71], fewer[70], more[112], both[119], one[118], tried[71];
     size_t type_words;
 
-    fill(words, 70);
-    list(words, 70);
+    fill(words, 71);
+    list(words, 71);
     print("check p", aura0_check(LIST(signature), OPERATIONS, LIST(words), DAY, LIST(proof), LIST(workspace)));
     print("check p", aura0_check_type(LIST(signature), OPERATIONS, LIST(words), DAY, LIST(proof), LIST(workspace), &type_words));
     print_words("type", workspace, type_words);
 
     // what a3 says stands there already, and the latest day moves on; then it has lapsed; then a day before the latest
-    say(words, 70, SAY_LAST);
-    request(words, 70, SAY_LAST + 1);
-    request(words, 70, DAY);
+    say(words, 71, SAY_LAST);
+    request(words, 71, SAY_LAST + 1);
+    request(words, 71, DAY);
 
-    fill(fewer, 69);
-    list(fewer, 69);
+    fill(fewer, 70);
+    list(fewer, 70);
 
-    fill(more, 111);
-    extract(more, 111, 5);
-    extract(more, 111, 6);
-    extract(more, 111, 6);
-    list(more, 111);
+    fill(more, 112);
+    extract(more, 112, 5);
+    extract(more, 112, 6);
+    extract(more, 112, 6);
+    list(more, 112);
 
-    start(both, 118);
-    batch(both, 118, LIST(other_order));
-    batch(both, 118, LIST(in_turn));
-    list(both, 118);
+    start(both, 119);
+    batch(both, 119, LIST(other_order));
+    batch(both, 119, LIST(in_turn));
+    list(both, 119);
 
     // room for the first of the two alone
-    start(one, 117);
-    batch(one, 117, LIST(in_turn));
+    start(one, 118);
+    batch(one, 118, LIST(in_turn));
+
+    try_out(tried, 71);
 
     convert();
     uses();
-    simplify(words, 70, "longer p, one step", 1, WORDS(proof) + 1);
-    simplify(words, 70, "longer p, a word short", 2, WORDS(proof) - 1);
-    simplify(words, 70, "longer p", 2, WORDS(proof) + 1);
+    simplify(words, 71, "longer p, one step", 1, WORDS(proof) + 1);
+    simplify(words, 71, "longer p, a word short", 2, WORDS(proof) - 1);
+    simplify(words, 71, "longer p", 2, WORDS(proof) + 1);
     return 0;
 }

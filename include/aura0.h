@@ -4,8 +4,8 @@
 // Each list of 32-bit words is lent as a pointer and a number of words; the pointer is not null, also where the
 // number is 0. Buffers that are written must not overlap any other buffer of the call.
 // An answer is 0 for success, else the refusal's number times 4294967296 plus its place (0 where none is named).
-// A refusal leaves the register and an output as they were. The workspace, where a call has one, needs at least 12,288
-// words, and what it holds after a call is free, except for a type handed back.
+// A refusal leaves the register, a list of marks and an output as they were. The workspace, where a call has one, needs
+// at least 12,288 words, and what it holds after a call is free, except for a type handed back.
 #ifndef AURA0_H
 #define AURA0_H
 
@@ -25,7 +25,8 @@ enum {
     AURA0_REGISTER_BROKEN = 3,      // register broken
     AURA0_BAD_SIGNATURE = 4,        // signature; place: first bad constant's length word
     AURA0_BAD_NUMBER = 5,           // n, operation, principal, extract or delivery out of range, a permit or receipt
-                                    // type wrong or missing, a first day after the last, or a batch of over 16 items
+                                    // type wrong or missing, a first day after the last, a mode of register that is
+                                    // neither release nor trial, or a batch of over 16 items
     AURA0_DAY_BEFORE_LATEST = 23,   // say, request and batch: a day before the register's latest
     AURA0_DESK_SAYS = 15,           // say by principal 0
     AURA0_TERM_LENGTH = 6,          // term empty or too long
@@ -51,7 +52,10 @@ enum {
     // document 02, slip 9: of simplify alone, after check's tests, with 6 and 8 of a step's result
     AURA0_STEP_REMAINS = 26,        // a step remains when the budget is used
     // document 02, slips 6 and 9: of the converters and of simplify, last
-    AURA0_OUTPUT_SHORT = 25         // output shorter than what is to be written
+    AURA0_OUTPUT_SHORT = 25,        // output shorter than what is to be written
+    // document 02, slip 10: of aura0_mark and aura0_return alone, after 2 and 3, in this order
+    AURA0_NO_MARK = 27,             // a release register, no list of marks, or a mark that is unknown or at no end
+    AURA0_MARKS_FULL = 28           // a mark would be the ninth
 };
 
 // What stands for the code of a home without a survey.
@@ -65,6 +69,12 @@ enum {
 // The kinds of records.
 enum { AURA0_RULE = 1, AURA0_SAY = 2, AURA0_GRANT = 3, AURA0_RECEIPT = 4 };
 
+// The modes of registers, word 3 of each, which an opening fixes.
+enum { AURA0_RELEASE = 0, AURA0_TRIAL = 1 };
+
+// The words of a list of marks.
+#define AURA0_MARK_LIST 33
+
 // The two parts of an answer, for lists of fewer than 4294967296 words together.
 static inline uint32_t aura0_number(uint64_t answer) { return (uint32_t)(answer >> 32); }
 static inline uint32_t aura0_place(uint64_t answer) { return (uint32_t)answer; }
@@ -76,9 +86,26 @@ static inline uint32_t aura0_place(uint64_t answer) { return (uint32_t)answer; }
 
 // Writes the register anew with the rules of a rule list, each a principal, a first day, a last day, a length and a
 // proposition; a refusal of a rule is at its principal's index. It has no day: a signature in a rule may be any earlier
-// rule, whatever its days.
-uint64_t aura0_open(const uint32_t *signature, size_t signature_words, uint32_t n, uint32_t *register_, size_t register_words,
+// rule, whatever its days. `mode` is AURA0_RELEASE or AURA0_TRIAL. Where it succeeds no mark stands: word 0 of the
+// marks becomes 0, if there is one, and no other word of them changes. For a register that gets no marks, lend 0 words.
+uint64_t aura0_open(const uint32_t *signature, size_t signature_words, uint32_t n, uint32_t mode,
+                    uint32_t *register_, size_t register_words, uint32_t *marks, size_t marks_words,
                     const uint32_t *rules, size_t rules_words, uint32_t *workspace, size_t workspace_words);
+
+// Marks of a trial register. A list of marks has AURA0_MARK_LIST words: word 0 counts the marks that stand, up to 8,
+// and four words of each follow, in the order in which they were set: its number, the words used, the records, the
+// latest day. Words behind the marks that stand are not looked at and stay. The list belongs to its register: lend it
+// to the opening and to these two calls, as the last of them left it. No other call needs it.
+// On a release register both calls are 27, and so they are with a list of another length or a count over 8.
+
+// Sets a mark at the end of the records. One of the number that stands is replaced, and is then the last that was set;
+// a ninth is 28. The register is only read.
+uint64_t aura0_mark(const uint32_t *register_, size_t register_words, uint32_t *marks, size_t marks_words, uint32_t number);
+
+// Brings the register back to a mark: words used, records and latest day are what the mark keeps, and no other word is
+// changed, so later records are no longer read. The mark stays, those set after it are removed. Where none of the
+// number stands, or where it is not at the header's end or a record's with its count of records, it is 27.
+uint64_t aura0_return(uint32_t *register_, size_t register_words, uint32_t *marks, size_t marks_words, uint32_t number);
 
 // Adds the principal's statement for the days from first to last, unless it stands there with these days; *added is 1
 // where it was added, else 0. Either way the latest day becomes `day`, which need not be one of the statement's.

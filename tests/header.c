@@ -31,6 +31,8 @@ IS(DAY_BEFORE_LATEST, 23);
 IS(UNBOUND, 24);
 IS(OUTPUT_SHORT, 25);
 IS(STEP_REMAINS, 26);
+IS(NO_MARK, 27);
+IS(MARKS_FULL, 28);
 
 // kinds of records
 IS(RULE, 1);
@@ -40,3 +42,8 @@ IS(RECEIPT, 4);
 
 // the code of a home without a survey
 IS(NO_SURVEY, 4294967295);
+
+// modes of registers, and the words of a list of marks
+IS(RELEASE, 0);
+IS(TRIAL, 1);
+IS(MARK_LIST, 33);

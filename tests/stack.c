@@ -13,10 +13,12 @@
 enum { PAGE = 4096, PAINT = 0xa5 };
 enum { MOST_WORDS = 2048, MOST_CONSTANT_WORDS = 256, MOST_NESTING = 32, MOST_ITEMS = 16, HOMES = 1024, ROWS = 4096 };
 
-enum call { OPEN, SAY, REQUEST, BATCH, EXTRACT, CHECK, CHECK_TYPE, TO_NAMED, FROM_NAMED, USES, SIMPLIFY, READ, CALLS };
+enum call {
+    OPEN, SAY, REQUEST, BATCH, EXTRACT, CHECK, CHECK_TYPE, TO_NAMED, FROM_NAMED, USES, SIMPLIFY, READ, MARK, RETURN, CALLS
+};
 static const char *const names[CALLS] = {
     "aura0_open", "aura0_say", "aura0_request", "aura0_batch", "aura0_extract", "aura0_check", "aura0_check_type",
-    "aura0_to_named", "aura0_from_named", "aura0_uses", "aura0_simplify", "aura0_read"
+    "aura0_to_named", "aura0_from_named", "aura0_uses", "aura0_simplify", "aura0_read", "aura0_mark", "aura0_return"
 };
 
 // an item with p
@@ -37,7 +39,7 @@ struct input {
 };
 
 // the register has room for p's grant and receipt by a request, an extract and each item of a batch
-static uint32_t words[29 + (2 + MOST_ITEMS) * 41], homes[HOMES], surveys[2 * ROWS], output[2 * HOMES];
+static uint32_t words[30 + (2 + MOST_ITEMS) * 41], marks[AURA0_MARK_LIST], homes[HOMES], surveys[2 * ROWS], output[2 * HOMES];
 
 static uint64_t make(enum call call, const struct input *in)
 {
@@ -46,7 +48,7 @@ static uint64_t make(enum call call, const struct input *in)
 #define STATE LENT(in->signature), OPERATIONS, LIST(words)
     switch (call) {
     case OPEN:
-        return aura0_open(STATE, LENT(in->rules), LIST(workspace));
+        return aura0_open(LENT(in->signature), OPERATIONS, AURA0_TRIAL, LIST(words), LIST(marks), LENT(in->rules), LIST(workspace));
     case SAY:
         return aura0_say(STATE, DAY, 3, SAY_FIRST, SAY_LAST, LENT(in->statement), LIST(workspace), &one);
     case REQUEST:
@@ -67,6 +69,10 @@ static uint64_t make(enum call call, const struct input *in)
         return aura0_uses(LENT(in->proof), 0, &length);
     case SIMPLIFY:
         return aura0_simplify(STATE, DAY, LENT(in->proof), SIZE_MAX, LIST(output), LIST(workspace), &start, &length);
+    case MARK:
+        return aura0_mark(LIST(words), LIST(marks), 7);
+    case RETURN:
+        return aura0_return(LIST(words), LIST(marks), 7);
     default:
         return aura0_read(LIST(words), 5, &one, &start, &length);
     }
@@ -255,8 +261,8 @@ int main(void)
     for (enum call call = OPEN; call < CALLS; call++) {
         printf("\n%-16s", names[call]);
         for (struct input *in = inputs; in < end; in++) {
-            // a read is lent the register alone
-            if (call == READ && in != sample) {
+            // a read, a mark and a return are lent no term
+            if (call >= READ && in != sample) {
                 printf("%11s", "");
                 continue;
             }

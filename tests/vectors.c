@@ -3,8 +3,8 @@
 // each wrong answer with its file and line. The exit status is 1 where an answer was wrong or a file compared none.
 // After each call it also compares what was lent with what it was before: the signature and the term, the register
 // where it may not change (where a say adds nothing, only its latest day may; by a batch of no items, nothing), the
-// register's words past the used count, an output's words past the result, all of them where refused, and the words
-// behind each buffer.
+// register's words past the used count, an output's words past the result, all of them where refused, the list of marks
+// where it may not change, and the words behind each buffer.
 #define _POSIX_C_SOURCE 200809L
 #include <stdarg.h>
 #include <stdio.h>
@@ -14,7 +14,7 @@
 #include "../include/aura0.h"
 
 // the level in force: requests 1 to LEVEL of document 02 (request 4 changed no answer, so it has no level of its own)
-enum { LEVEL = 9, MOST = 1 << 21, GUARD = 16, PATTERN = 0x5a5a5a5a };
+enum { LEVEL = 10, MOST = 1 << 21, GUARD = 16, PATTERN = 0x5a5a5a5a };
 
 // a lent list of words, with a guard behind it, and what it held before the call
 struct lent {
@@ -22,7 +22,7 @@ struct lent {
     size_t length;
 };
 
-static struct lent signature, reg, term, workspace, homes, surveys, output;
+static struct lent signature, reg, marks, term, workspace, homes, surveys, output;
 static uint32_t n;
 static unsigned long level;
 static const char *listing;
@@ -157,13 +157,14 @@ static void lend(size_t words, const char *rest)
     fill(&workspace, words, PATTERN);
     keep(&signature);
     keep(&reg);
+    keep(&marks);
     keep(&term);
     keep(&workspace);
 }
 
-// what a call may change of the register, and the place of the latest day
+// what a call may change of the register, and the places of the latest day and of the first record
 enum changes { NOTHING, LATEST_DAY, RECORDS };
-enum { LATEST = 2 };
+enum { LATEST = 2, HEADER = 4 };
 
 // after it
 static void take_back(enum changes changes)
@@ -176,6 +177,12 @@ static void take_back(enum changes changes)
     if (changes == LATEST_DAY)
         reg.before[LATEST] = reg.words[LATEST];
     same_from(&reg, changes == RECORDS ? reg.words[0] : 0, "register");
+}
+
+// the list of marks: from the word on where it may not change, all of it where the call does not set or remove one
+static void take_back_marks(size_t start)
+{
+    same_from(&marks, start < marks.length ? start : marks.length, "list of marks");
 }
 
 #define LENT(list) (list).words, (list).length
@@ -234,9 +241,11 @@ static int call(const char *line)
     put("");
     if ((rest = after(line, "open")) != NULL) {
         size_t words = read_number(&rest, MOST);
+        uint32_t mode = read_number(&rest, UINT32_MAX);
         lend(words, rest);
-        uint64_t code = aura0_open(STATE, LENT(term), LENT(workspace));
+        uint64_t code = aura0_open(LENT(signature), n, mode, LENT(reg), LENT(marks), LENT(term), LENT(workspace));
         take_back(code == 0 ? RECORDS : NOTHING);
+        take_back_marks(code == 0 ? 1 : 0);
         put("open %u %u", aura0_number(code), aura0_place(code));
     } else if ((rest = after(line, "say")) != NULL) {
         size_t words = read_number(&rest, MOST);
@@ -326,6 +335,26 @@ static int call(const char *line)
             stop("a body past the register");
         put("read %u %u %u", aura0_number(code), aura0_place(code), kind);
         put_words(reg.words + start, words);
+    } else if ((rest = after(line, "mark")) != NULL) {
+        uint32_t number = read_number(&rest, UINT32_MAX);
+        lend(0, rest);
+        uint64_t code = aura0_mark(LENT(reg), LENT(marks), number);
+        take_back(NOTHING);
+        take_back_marks(code == 0 ? 1 + 4 * marks.words[0] : 0);
+        put("mark %u %u", aura0_number(code), aura0_place(code));
+    } else if ((rest = after(line, "return")) != NULL) {
+        uint32_t number = read_number(&rest, UINT32_MAX);
+        lend(0, rest);
+        uint64_t code = aura0_return(LENT(reg), LENT(marks), number);
+        // it changes the first three words of the register, and the count of the marks
+        if (code == 0)
+            memcpy(reg.before, reg.words, (HEADER - 1) * sizeof(uint32_t));
+        take_back(NOTHING);
+        take_back_marks(code == 0 ? 1 : 0);
+        put("return %u %u", aura0_number(code), aura0_place(code));
+    } else if (after(line, "dumpmarks") != NULL) {
+        put("marks %zu:", marks.length);
+        put_words(marks.words, marks.length);
     } else if (after(line, "dump") != NULL) {
         uint32_t kind;
         size_t start, words;
@@ -375,6 +404,7 @@ static int set(const char *line)
     if (after(line, "new") != NULL) {
         end_script();
         signature.length = reg.length = 0;
+        fill(&marks, AURA0_MARK_LIST, 0);
         n = 0;
         level = 0;
     } else if ((rest = after(line, "level")) != NULL) {
@@ -387,6 +417,8 @@ static int set(const char *line)
         read_last(&signature, rest);
     else if ((rest = after(line, "register")) != NULL)
         read_last(&reg, rest);
+    else if ((rest = after(line, "marks")) != NULL)
+        read_last(&marks, rest);
     else
         return 0;
     return 1;

@@ -1,5 +1,5 @@
 -- The bounds of refusals, each proved in its crate.
-use Rattle.register.proofs.Bounds.{check-bound, say-bound, request-bound, batch-bound, open-bound, read-bound}
+use Rattle.register.proofs.Bounds.{check-bound, say-bound, request-bound, batch-bound, open-bound, read-bound, mark-bound, return-bound}
 use Rattle.editions.proofs.Refuses.{converted-bound}
 use Rattle.uses.proofs.Demands.{uses-bound}
 use Rattle.reduction.proofs.Refuses.{simplify-bound}
@@ -13,6 +13,8 @@ bounds = record {
   batches = batch-bound;
   opens = open-bound;
   reads = read-bound;
+  marks = mark-bound;
+  returns = return-bound;
   converts = converted-bound;
   counts = uses-bound;
   simplifies = simplify-bound;

@@ -6,16 +6,19 @@ use Rattle.register.specs.Records.{Record, Ask, Content}
 use Rattle.register.specs.Calls.{Lent}
 use Rattle.register.specs.Succeeds.{Demand2}
 use Rattle.register.specs.Refuses.{BatchAnswers, Demand1}
-use Rattle.register.specs.Leaves.{Leaves, Leaving}
+use Rattle.register.specs.Marks.{Mark, Spot}
+use Rattle.register.specs.Leaves.{Leaves, LeavesMarks, Restores, Leaving}
 use Rattle.register.specs.Stated.{StatedRight}
 use Rattle.register.specs.Verdict.{Verdicts}
 use Rattle.register.specs.Lapse.{Lapses}
 use Rattle.register.specs.Batch.{Batched, Batches}
 use Rattle.register.specs.BatchTests.{TestedOnce}
 use Rattle.register.specs.History.{Setting, Call, Reordered, Replaced, Demand}
+use Rattle.register.specs.Unread.{Unread}
+use Rattle.register.specs.Trials.{TrialCall, Behaviour, Amounts, HoldsAfter, HoldsAlike, TrialDemand}
 use Rattle.homes.specs.Right.{WritingStep}
 use Rattle.extract.specs.Demands.{ExtractDemands}
-use Rattle.extract.specs.Desk.{DeskCall, DeskDemand}
+use Rattle.extract.specs.Desk.{DeskCall, DeskDemand, DeskTrialDemand}
 use Rattle.editions.specs.Laws.{Laws}
 use Rattle.editions.specs.Refuses.{ConvertersDemand}
 use Rattle.uses.specs.Demands.{UsesDemand}
@@ -43,11 +46,24 @@ batch-answers-fields a = record {
   one-refusal = a .one-refusal;
 }
 
-pub leaves-fields : {old : List ℕ} {day : ℕ} {rs : List Record} {new : List ℕ} → Leaves old day rs new → Leaves old day rs new
+pub leaves-fields : {old : List ℕ} {mode day : ℕ} {rs : List Record} {new : List ℕ} → Leaves old mode day rs new → Leaves old mode day rs new
 leaves-fields l = record {
   unbroken = l .unbroken;
   size = l .size;
   behind = l .behind;
+}
+
+pub leaves-marks-fields : {old : List ℕ} {ms : List Mark} {new : List ℕ} → LeavesMarks old ms new → LeavesMarks old ms new
+leaves-marks-fields l = record {
+  listed = l .listed;
+  behind = l .behind;
+}
+
+pub restores-fields : {old : List ℕ} {c : Content} {m : Spot} {new : List ℕ} → Restores old c m new → Restores old c m new
+restores-fields r = record {
+  unbroken = r .unbroken;
+  size = r .size;
+  behind = r .behind;
 }
 
 -- ---- the first and the second demand
@@ -58,14 +74,19 @@ demand1-fields d = record {
   requests = λ l reg k. answers-fields (d .requests l reg k);
   batches = λ l reg day ws xs h. batch-answers-fields (d .batches l reg day ws xs h);
   says = λ l reg day st. answers-fields (d .says l reg day st);
-  opens = λ l reg rules. answers-fields (d .opens l reg rules);
+  opens = λ l reg mode rules. answers-fields (d .opens l reg mode rules);
   reads = λ reg k. answers-fields (d .reads reg k);
+  marks = λ reg list n. answers-fields (d .marks reg list n);
+  returns = λ reg list n. answers-fields (d .returns reg list n);
   check-empty = d .check-empty;
   read-empty = d .read-empty;
   request-unchanged = d .request-unchanged;
   batch-unchanged = d .batch-unchanged;
   say-unchanged = d .say-unchanged;
   open-unchanged = d .open-unchanged;
+  open-marks-unchanged = d .open-marks-unchanged;
+  mark-unchanged = d .mark-unchanged;
+  return-unchanged = d .return-unchanged;
 }
 
 pub demand2-fields : Demand2 → Demand2
@@ -75,6 +96,8 @@ demand2-fields d = record {
   batches = d .batches;
   says = d .says;
   opens = d .opens;
+  marks = d .marks;
+  returns = d .returns;
   well-formed = d .well-formed;
   unique = d .unique;
 }
@@ -88,6 +111,7 @@ extract-fields d = record {
   register-kept = d .register-kept;
   output-right = d .output-right;
   output-kept = d .output-kept;
+  unread = d .unread;
 }
 
 pub converters-fields : ConvertersDemand → ConvertersDemand
@@ -108,6 +132,7 @@ simplify-fields d = record {
   answers = λ l reg day ws budget room. answers-fields (d .answers l reg day ws budget room);
   unchanged = d .unchanged;
   written = d .written;
+  unread = d .unread;
 }
 
 -- ---- the third demand
@@ -139,6 +164,7 @@ demand3-fields d = record {
   size = d .size;
   words = d .words;
   day = d .day;
+  mode = d .mode;
   reordered = λ day ys o p n n′. reordered-fields (d .reordered day ys o p n n′);
   replaced = replaced-fields (d .replaced);
   reordered-singles = λ day ys o p n n′. reordered-fields (d .reordered-singles day ys o p n n′);
@@ -154,6 +180,73 @@ desk-demand3-fields d = record {
   reordered-singles = λ day ys o p n n′. reordered-fields (d .reordered-singles day ys o p n n′);
 }
 
+-- ---- with marks
+
+pub amounts-fields : {X : Type 0} {b : Behaviour X} {left : List X → List ℕ} {reg list : List ℕ} {xs : List (TrialCall X)} → Amounts b left reg list xs →
+    Amounts b left reg list xs
+amounts-fields a = record {
+  same = a .same;
+  marks = a .marks;
+  answered = a .answered;
+  later = a .later;
+}
+
+pub holds-after-fields : {s : Setting} {reg : List ℕ} {c : Content} {calls : List Call} {end : List ℕ} → HoldsAfter s reg c calls end →
+    HoldsAfter s reg c calls end
+holds-after-fields h = record {
+  content = h .content;
+  rechecks = h .rechecks;
+  words = h .words;
+  day = h .day;
+  later = h .later;
+}
+
+pub holds-alike-fields : {reg reg′ : List ℕ} → HoldsAlike reg reg′ → HoldsAlike reg reg′
+holds-alike-fields h = record {
+  content = h .content;
+  content′ = h .content′;
+  read = h .read;
+  read′ = h .read′;
+  held = h .held;
+  later = h .later;
+}
+
+pub trial-demand3-fields : {s : Setting} {reg list : List ℕ} {c : Content} {xs : List (TrialCall Call)} → TrialDemand s reg list c xs →
+    TrialDemand s reg list c xs
+trial-demand3-fields d = record {
+  amounts = amounts-fields (d .amounts);
+  demand = demand3-fields (d .demand);
+  holds = holds-after-fields (d .holds);
+  reordered = λ day ys o p n n′. holds-alike-fields (d .reordered day ys o p n n′);
+  reordered-singles = λ day ys o p n n′. holds-alike-fields (d .reordered-singles day ys o p n n′);
+}
+
+pub desk-trial-demand3-fields : {s : Setting} {reg list : List ℕ} {c : Content} {xs : List (TrialCall DeskCall)} → DeskTrialDemand s reg list c xs →
+    DeskTrialDemand s reg list c xs
+desk-trial-demand3-fields d = record {
+  amounts = amounts-fields (d .amounts);
+  demand = desk-demand3-fields (d .demand);
+  holds = holds-after-fields (d .holds);
+  reordered = λ day ys o p n n′. holds-alike-fields (d .reordered day ys o p n n′);
+  reordered-singles = λ day ys o p n n′. holds-alike-fields (d .reordered-singles day ys o p n n′);
+}
+
+pub unread-fields : Unread → Unread
+unread-fields t = record {
+  contents = t .contents;
+  checks = t .checks;
+  says = t .says;
+  requests = t .requests;
+  batches = t .batches;
+  reads = t .reads;
+  marks = t .marks;
+  returns = t .returns;
+  opens = t .opens;
+  leaves = t .leaves;
+  leaves-return = t .leaves-return;
+  later = t .later;
+}
+
 -- ---- the theorems beside them
 
 pub leaving-fields : Leaving → Leaving
@@ -163,6 +256,11 @@ leaving-fields t = record {
   said-again = λ h. leaves-fields (t .said-again h);
   granted = λ h. leaves-fields (t .granted h);
   batched = λ k ks i h u. leaves-fields (t .batched k ks i h u);
+  opened-marks = t .opened-marks;
+  opened-list = t .opened-list;
+  marked = λ h. leaves-marks-fields (t .marked h);
+  returned = λ h. let (r, m) = t .returned h in (restores-fields r, leaves-marks-fields m);
+  returned-whole = t .returned-whole;
 }
 
 pub stated-right-fields : StatedRight → StatedRight

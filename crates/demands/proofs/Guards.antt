@@ -10,6 +10,7 @@ use Rattle.register.proofs.Worked.{worked-register, worked-days}
 use Rattle.register.proofs.Order.{call-order}
 use Rattle.register.proofs.BatchGuards.{batch-guards}
 use Rattle.register.proofs.HistoryGuards.{history-guards}
+use Rattle.register.proofs.MarkGuards.{mark-guards}
 use Rattle.register.proofs.Paper.{paper-register}
 use Rattle.decimal.proofs.Guards.{decimal-guards}
 use Rattle.homes.proofs.Guards.{homes-guards}
@@ -41,4 +42,5 @@ definition-guards = record {
   free-variables = free-examples;
   counts = uses-guards;
   simplified = simplify-guards;
+  marks = mark-guards;
 }

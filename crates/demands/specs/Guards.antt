@@ -13,6 +13,7 @@ use Rattle.register.specs.Worked.{WorkedRegister, WorkedDays}
 use Rattle.register.specs.Order.{CallOrder}
 use Rattle.register.specs.BatchGuards.{BatchGuards}
 use Rattle.register.specs.HistoryGuards.{HistoryGuards}
+use Rattle.register.specs.MarkGuards.{MarkGuards}
 use Rattle.register.specs.Paper.{PaperNumbers}
 use Rattle.decimal.specs.Guards.{DecimalGuards}
 use Rattle.homes.specs.Guards.{HomesGuards}
@@ -33,7 +34,7 @@ pub record DefinitionGuards : Type 0 where
   pub shapes : Shape
   -- lists of calls
   pub histories : HistoryGuards
-  -- document 02's slips 1, 2, 3 and 5 to 9
+  -- document 02's slips 1, 2, 3 and 5 to 10
   pub whole-property : WholeProperty
   pub separate-refusals : (Σ : List Term) → Signature Σ → SeparateRefusals Σ
   pub separate-examples : SeparateExamples
@@ -46,3 +47,4 @@ pub record DefinitionGuards : Type 0 where
   pub free-variables : FreeExamples
   pub counts : UsesGuards
   pub simplified : SimplifyGuards
+  pub marks : MarkGuards

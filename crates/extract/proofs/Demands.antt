@@ -7,14 +7,16 @@ use mathlib.Core.Bool.{Bool, true, false}
 use mathlib.Core.List.{List}
 use lib.ListN.{length}
 use Rattle.logic.specs.Refusals.{out-of-form, last-refusal}
-use Rattle.logic.specs.Result.{Result, ok, refused, number-of, _>>_, without-value}
+use Rattle.logic.specs.Result.{Result, ok, refused, number-of, _>>_, require, without-value}
 use Rattle.logic.proofs.Results.{ok-inj, not-ok, followed}
 use Rattle.logic.proofs.Stopped.{one-answer, not-refused, number-is, place-is, stopped-then, stop-then, not-passed, passed-not}
 use Rattle.register.specs.Records.{Ask}
 use Rattle.register.specs.Calls.{Lent, request-call, after-request}
+use Rattle.register.specs.Unread.{SameFront}
 use Rattle.register.proofs.Bounds.{request-bound}
 use Rattle.register.proofs.Refuses.{demand1}
 use Rattle.register.proofs.Succeeds.{demand2}
+use Rattle.register.proofs.Unread.{unread}
 use Rattle.words.specs.Place.{after-write}
 use Rattle.homes.specs.Homes.{formed, joined}
 use Rattle.homes.specs.Right.{InForm, Right}
@@ -101,6 +103,10 @@ module _ (l : Lent) (reg : List ℕ) (k : Ask) (hs t : List ℕ) (room : ℕ) wh
       ap (λ (o : Result (List ℕ)). after-write o old) (granted xs .1 x ∙ ap ok (right-joined hs t room (x .form) xs (x .count) (x .right))) in
       output-right hs t old (after-write call old) (rw n (x .form)) .0 e
 
+  unread-words : {reg′ : List ℕ} → SameFront reg reg′ → call ≡ extract-call l reg′ k hs t room
+  unfolding extract-call
+  unread-words f = ap (λ (o : Result (Unit {0})). require (formed hs t room) out-of-form 0 >> (o >> ok (joined hs t))) (unread .requests l k f)
+
   pub extract-demands : ExtractDemands l reg k hs t room
   extract-demands = record {
     answers = one-answer call granted (λ m place. (refused-then, then-refused));
@@ -110,6 +116,7 @@ module _ (l : Lent) (reg : List ℕ) (k : Ask) (hs t : List ℕ) (room : ℕ) wh
     register-kept = λ r. ap (λ (o : Result (List ℕ)). after-request (without-value o) reg k) (then-refused r);
     output-right = λ {xs} old n x. written-right old n x;
     output-kept = λ old r. ap (λ (o : Result (List ℕ)). after-write o old) (then-refused r);
+    unread = unread-words;
   }
 
   -- a refusal's number is at most the last one, and its place within what was lent

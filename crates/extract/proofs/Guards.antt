@@ -10,6 +10,8 @@ use Rattle.logic.specs.Worked.{listed}
 use Rattle.register.specs.Records.{records, words-of, statements-from, some-of, same-words}
 use Rattle.register.specs.Calls.{opening}
 use Rattle.register.specs.History.{request-refused, run}
+use Rattle.register.specs.Marks.{standing, others, up-to, marks-words, front-marks}
+use Rattle.register.specs.Trials.{trial-answers, trail}
 use Rattle.homes.specs.Homes.{rising, rows, formed, survey-code, joined}
 use Rattle.extract.specs.Extract.{extract-call}
 use Rattle.extract.specs.Desk.{desk-run, desk-answers, as-requests, NoDeskRefusal}
@@ -18,7 +20,7 @@ use Rattle.extract.specs.Guards.{ExtractGuards}
 pub extract-guards : ExtractGuards
 unfolding infer same-term conclusion read too-deep first-miss shift fill-at occurs size encode ℕ-discrete constants operations records
     words-of statements-from some-of same-words opening run listed rising rows formed survey-code joined extract-call desk-run desk-answers
-    as-requests NoDeskRefusal
+    as-requests NoDeskRefusal standing others up-to marks-words front-marks trial-answers trail
 extract-guards = record {
   granted = refl;
   written = refl;
@@ -37,4 +39,6 @@ extract-guards = record {
   a-refusal = λ h. h .1 .0 request-refused;
   not-written = refl;
   register-kept = refl;
+  told-on-trial = refl;
+  amounts = refl;
 }

@@ -1,20 +1,28 @@
 -- An extract leaves the register that its request leaves, and answers what its request answers. So a list of calls with
 -- extracts leaves what the list with their requests leaves.
 use Prim.Native.Nat.{ℕ}
-use mathlib.Core.Path.{_≡_, refl, sym, ap, ap₂, _∙_}
+use mathlib.Core.Path.{_≡_, refl, sym, ap, ap₂, subst, _∙_}
 use mathlib.Core.Bool.{Bool, true, false, cond}
-use mathlib.Core.List.{List, [], _∷_, _++_, List·Permᴰ, List·Permᴰ·nil, List·Permᴰ·cons, List·Permᴰ·swap}
+use mathlib.Core.List.{List, [], _∷_, _++_, append-nil, append-assoc, List·Permᴰ, List·Permᴰ·nil, List·Permᴰ·cons, List·Permᴰ·swap}
 use mathlib.Core.List.{List·Permᴰ·trans, Permᴰ·refl, Permᴰ·symm, Permᴰ·append-left, Permᴰ·middle}
+use lib.ListN.{length}
 use Rattle.logic.specs.Refusals.{out-of-form}
 use Rattle.logic.specs.Result.{Result, refused, without-value}
-use Rattle.register.specs.Records.{Ask, register-content, written}
-use Rattle.register.specs.Calls.{after-request, new-content}
-use Rattle.register.specs.History.{Setting, lent, Call, Reply, request, requested, reply, after, Refused, run, NoRefusal}
-use Rattle.register.proofs.Demand.{demand3}
+use Rattle.register.specs.Records.{Ask, Content, trial, register-content}
+use Rattle.register.specs.Calls.{after-request}
+use Rattle.register.specs.Marks.{MarkList}
+use Rattle.register.specs.Trials.{TrialCall, HoldsAfter, amounts-to, trial-end}
+use Rattle.register.specs.History.{Setting, lent, Call, Reply, request, requested, reply, after, Refused, run, read-off, NoRefusal}
+use Rattle.register.proofs.Words.{Stores}
+use Rattle.register.proofs.Marks.{cleared-marks}
+use Rattle.register.proofs.Run.{read-off-grows, read-off-append, run-append, run-stores}
+use Rattle.register.proofs.Alike.{like-refl, reply-alike}
+use Rattle.register.proofs.Demand.{demand}
+use Rattle.register.proofs.Trials.{Lawful, end-stores, amounts, no-mark-run, no-list, holds-after, holds-alike, Begun, begun}
 use Rattle.homes.specs.Homes.{formed}
 use Rattle.extract.specs.Desk.{DeskCall, plain, extract, desk-reply, desk-after, desk-run, desk-answers}
 use Rattle.extract.specs.Desk.{as-request, as-requests, reply-as-request, answers-as-requests, NoDeskRefusal}
-use Rattle.extract.specs.Desk.{DeskDemand3}
+use Rattle.extract.specs.Desk.{DeskDemand, DeskDemand3, desk-calls-in, DeskTrialDemand, DeskTrialDemand3, DeskNoMarkLaw}
 use Rattle.extract.proofs.Extracts.{broken-form, request-answer}
 
 -- ---- one call
@@ -42,11 +50,6 @@ call-reply s reg (plain c) = refl
 call-reply s reg (extract w k hs t room) = by-form s reg w k hs t room (formed hs t room) refl .1
 
 -- ---- the list
-
-run-append : (s : Setting) (reg : List ℕ) (cs ds : List Call) → run s reg (cs ++ ds) ≡ run s (run s reg cs) ds
-unfolding run
-run-append s reg [] ds = refl
-run-append s reg (c ∷ cs) ds = run-append s (after s reg c) cs ds
 
 -- the register at the end is that of the requests
 pub extracts-as-requests : (s : Setting) (reg : List ℕ) (cs : List DeskCall) → desk-run s reg cs ≡ run s reg (as-requests cs)
@@ -102,10 +105,9 @@ none-refused s reg (c ∷ cs) n =
 
 -- ---- the third demand with extracts
 
-pub desk-demand3 : DeskDemand3
-desk-demand3 s w given rule-words rules calls e =
-    let reg : List ℕ = written given (new-content rules) in
-    let d = demand3 s w given rule-words rules (as-requests calls) e .2 in
+desk-demand : (s : Setting) {reg : List ℕ} {c : Content} → Stores (length reg) c reg → (calls : List DeskCall) → DeskDemand s reg c calls
+desk-demand s {reg} st calls =
+    let d = demand s (as-requests calls) st in
     record {
       same-register = extracts-as-requests s reg calls;
       answered = answered s reg calls;
@@ -116,3 +118,69 @@ desk-demand3 s w given rule-words rules calls e =
       reordered-singles = λ day calls′ one π n n′.
           d .reordered-singles day (as-requests calls′) one π (none-refused s reg calls n) (none-refused s reg calls′ n′);
     }
+
+pub desk-demand3 : DeskDemand3
+desk-demand3 s w given mode rule-words rules calls e = desk-demand s (begun s w given mode rule-words rules e .stores) calls
+
+-- ---- with marks
+
+as-requests-append : (cs ds : List DeskCall) → as-requests (cs ++ ds) ≡ as-requests cs ++ as-requests ds
+unfolding as-requests
+as-requests-append [] ds = refl
+as-requests-append (c ∷ cs) ds =
+    ap (λ l. as-request c ++ l) (as-requests-append cs ds) ∙ sym (append-assoc (as-request c) (as-requests cs) (as-requests ds))
+
+-- what one call more is taken for
+as-requests-last : (cs : List DeskCall) (c : DeskCall) → as-requests (cs ++ (c ∷ [])) ≡ as-requests cs ++ as-request c
+unfolding as-requests
+as-requests-last cs c = as-requests-append cs (c ∷ []) ∙ ap (λ l. as-requests cs ++ l) (append-nil (as-request c))
+
+desk-run-append : (s : Setting) (reg : List ℕ) (cs ds : List DeskCall) → desk-run s reg (cs ++ ds) ≡ desk-run s (desk-run s reg cs) ds
+unfolding desk-run
+desk-run-append s reg [] ds = refl
+desk-run-append s reg (c ∷ cs) ds = desk-run-append s (desk-after s reg c) cs ds
+
+-- registers with one content answer alike
+reply-as-request-alike : (s : Setting) {len : ℕ} {c : Content} {reg reg′ : List ℕ} → Stores len c reg → Stores len c reg′ → (x : DeskCall) →
+    reply-as-request s reg x ≡ reply-as-request s reg′ x
+reply-as-request-alike s st st′ (plain x) = reply-alike s st st′ (like-refl _) x
+reply-as-request-alike s st st′ (extract w k hs t room) =
+    ap (λ r. cond (formed hs t room) r (requested (refused out-of-form 0))) (reply-alike s st st′ (like-refl _) (request w k))
+
+lawful-desk-calls : (s : Setting) {len : ℕ} {c : Content} {reg : List ℕ} → Stores len c reg →
+    Lawful (desk-calls-in s) len (desk-run s reg) (λ xs. read-off s len c (as-requests xs)) (λ k x. read-off s len k (as-request x))
+unfolding desk-run
+lawful-desk-calls s {len} {c} {reg} st = record {
+  stores = λ xs. subst (Stores len _) (sym (extracts-as-requests s reg xs)) (run-stores s st (as-requests xs));
+  last = λ xs x. ap (read-off s len c) (as-requests-last xs x) ∙ read-off-append s len c (as-requests xs) (as-request x);
+  left-last = λ xs x. desk-run-append s reg xs (x ∷ []);
+  step = λ {c} {reg} u x. subst (Stores len _) (sym (call-after s reg x)) (run-stores s u (as-request x));
+  grows = λ k x. read-off-grows s len k (as-request x);
+  alike = λ {c} {reg} {reg′} u u′ x. call-reply s reg x ∙ reply-as-request-alike s u u′ x ∙ sym (call-reply s reg′ x);
+}
+
+desk-trial-demand : (s : Setting) {reg list : List ℕ} {c : Content} → Begun c reg → c .mode ≡ trial → MarkList list [] →
+    (xs : List (TrialCall DeskCall)) → DeskTrialDemand s reg list c xs
+unfolding read-off as-requests
+desk-trial-demand s {reg} {list} o on-trial none-stands xs =
+    let law = lawful-desk-calls s (o .stores) in
+    let d = desk-demand s (o .stores) (amounts-to xs) in
+    let holds : (ys : List (TrialCall DeskCall)) → HoldsAfter s reg _ (as-requests (amounts-to ys)) (trial-end (desk-calls-in s) reg list ys .register) =
+    λ ys. holds-after s (as-requests (amounts-to ys)) (o .stores) (end-stores law (o .low) (o .high) on-trial (o .stores) none-stands ys) in
+    record {
+      amounts = amounts law (o .low) (o .high) on-trial (o .stores) none-stands xs;
+      demand = d;
+      holds = holds xs;
+      reordered = λ day ys h p n n′. holds-alike (holds xs) (holds ys) (d .reordered day (amounts-to ys) h p n n′);
+      reordered-singles = λ day ys h p n n′. holds-alike (holds xs) (holds ys) (d .reordered-singles day (amounts-to ys) h p n n′);
+    }
+
+pub desk-trial-demand3 : DeskTrialDemand3
+desk-trial-demand3 s w given list rule-words rules xs e size =
+    desk-trial-demand s (begun s w given trial rule-words rules e) refl (cleared-marks list size) xs
+
+pub desk-no-mark-law : DeskNoMarkLaw
+unfolding desk-run read-off as-requests
+desk-no-mark-law s w given mode list rule-words rules xs e unmarked =
+    let o = begun s w given mode rule-words rules e in
+    no-mark-run (lawful-desk-calls s (o .stores)) (o .low) (o .high) list (no-list unmarked) [] xs

@@ -11,6 +11,7 @@ use Rattle.register.specs.Records.{Ask}
 use Rattle.register.specs.Calls.{Lent, request-call, after-request}
 use Rattle.register.specs.Succeeds.{Grantable}
 use Rattle.register.specs.Refuses.{RequestRefused}
+use Rattle.register.specs.Unread.{SameFront}
 use Rattle.words.specs.Place.{after-write}
 use Rattle.homes.specs.Right.{InForm, Right}
 use Rattle.extract.specs.Extract.{extract-call}
@@ -43,3 +44,5 @@ module _ (l : Lent) (reg : List ℕ) (k : Ask) (hs t : List ℕ) (room : ℕ) wh
     pub output-right : {xs : List ℕ} (old : List ℕ) → length old ≡ room → Extractable xs →
         Right hs t old (after-write (extract-call l reg k hs t room) old)
     pub output-kept : {m place : ℕ} (old : List ℕ) → ExtractRefused m place → after-write (extract-call l reg k hs t room) old ≡ old
+    -- words past the used count are unread
+    pub unread : {reg′ : List ℕ} → SameFront reg reg′ → extract-call l reg k hs t room ≡ extract-call l reg′ k hs t room

@@ -1,14 +1,17 @@
--- Lists of calls with extracts among them, each as its request.
+-- Lists of calls with extracts among them, each as its request; and with marks and returns.
 use Prim.Native.Nat.{ℕ}
 use mathlib.Core.Path.{_≡_}
+use mathlib.Core.Logic.{_⊎_, _≢_}
 use mathlib.Core.List.{List, [], _∷_, _++_, List·Permᴰ}
 use mathlib.Core.Bool.{cond}
 use lib.ListN.{length}
 use Rattle.logic.specs.Refusals.{out-of-form}
 use Rattle.logic.specs.Result.{ok, refused, without-value}
-use Rattle.register.specs.Records.{Record, Ask, Content, register-content, written}
+use Rattle.register.specs.Records.{Record, Ask, Content, release, trial, register-content, written}
 use Rattle.register.specs.Calls.{after-request, open-call, new-content}
 use Rattle.register.specs.History.{Setting, lent, Call, Reply, request, requested, reply, after, Refused, run, read-off, OneDay, singles, Demand, Reordered}
+use Rattle.register.specs.Marks.{mark-list, cleared}
+use Rattle.register.specs.Trials.{TrialCall, Behaviour, Amounts, HoldsAfter, HoldsAlike, amounts-to, trial-end, calls-made}
 use Rattle.homes.specs.Homes.{formed}
 use Rattle.extract.specs.Extract.{extract-call}
 
@@ -79,7 +82,43 @@ pub record DeskDemand (s : Setting) (reg : List ℕ) (c : Content) (calls : List
       List·Permᴰ (singles s reg (as-requests calls)) (singles s reg (as-requests calls′)) → NoDeskRefusal s reg calls →
       NoDeskRefusal s reg calls′ → Reordered s reg c (as-requests calls) (as-requests calls′)
 
--- for every opening that succeeded and every list of calls after it
+-- for every opening that succeeded, of a register of either mode, and every list of calls after it
 abbrev pub DeskDemand3 : Type 0
-DeskDemand3 = (s : Setting) (w : ℕ) (given rule-words : List ℕ) (rules : List Record) (calls : List DeskCall) →
-    open-call (lent s w) given rule-words ≡ ok rules → DeskDemand s (written given (new-content rules)) (new-content rules) calls
+DeskDemand3 = (s : Setting) (w : ℕ) (given : List ℕ) (mode : ℕ) (rule-words : List ℕ) (rules : List Record) (calls : List DeskCall) →
+    open-call (lent s w) given mode rule-words ≡ ok rules → DeskDemand s (written given (new-content mode rules)) (new-content mode rules) calls
+
+-- ---- with marks: what such a list amounts to, and the third demand
+
+abbrev pub desk-calls-in : Setting → Behaviour DeskCall
+desk-calls-in s = record { reply = desk-reply s; after = desk-after s }
+
+-- for one list: reg is the trial register just opened, c its content, and in `list` no mark stands
+pub record DeskTrialDemand (s : Setting) (reg list : List ℕ) (c : Content) (xs : List (TrialCall DeskCall)) : Type 0 where
+  pub amounts : Amounts (desk-calls-in s) (desk-run s reg) reg list xs
+  -- the third demand with extracts holds, whole, of the calls that it amounts to, and the register at the end holds what
+  -- these leave
+  pub demand : DeskDemand s reg c (amounts-to xs)
+  pub holds : HoldsAfter s reg c (as-requests (amounts-to xs)) (trial-end (desk-calls-in s) reg list xs .register)
+  -- two lists that amount to calls of one day in two orders, neither with a refusal, leave registers that hold the same
+  pub reordered : (day : ℕ) (ys : List (TrialCall DeskCall)) → OneDay day (as-requests (amounts-to xs)) → List·Permᴰ (amounts-to xs) (amounts-to ys) →
+      NoDeskRefusal s reg (amounts-to xs) → NoDeskRefusal s reg (amounts-to ys) →
+      HoldsAlike (trial-end (desk-calls-in s) reg list xs .register) (trial-end (desk-calls-in s) reg list ys .register)
+  pub reordered-singles : (day : ℕ) (ys : List (TrialCall DeskCall)) → OneDay day (singles s reg (as-requests (amounts-to xs))) →
+      List·Permᴰ (singles s reg (as-requests (amounts-to xs))) (singles s reg (as-requests (amounts-to ys))) →
+      NoDeskRefusal s reg (amounts-to xs) → NoDeskRefusal s reg (amounts-to ys) →
+      HoldsAlike (trial-end (desk-calls-in s) reg list xs .register) (trial-end (desk-calls-in s) reg list ys .register)
+
+-- for every opening of a trial register that succeeded, with a list that can hold marks, and every list of calls after
+-- it
+abbrev pub DeskTrialDemand3 : Type 0
+DeskTrialDemand3 = (s : Setting) (w : ℕ) (given list rule-words : List ℕ) (rules : List Record) (xs : List (TrialCall DeskCall)) →
+    open-call (lent s w) given trial rule-words ≡ ok rules → length list ≡ mark-list →
+    let c = new-content trial rules in
+    DeskTrialDemand s (written given c) (cleared list) c xs
+
+-- where no mark can be set a list amounts to its calls
+abbrev pub DeskNoMarkLaw : Type 0
+DeskNoMarkLaw = (s : Setting) (w : ℕ) (given : List ℕ) (mode : ℕ) (list rule-words : List ℕ) (rules : List Record) (xs : List (TrialCall DeskCall)) →
+    open-call (lent s w) given mode rule-words ≡ ok rules → (mode ≡ release) ⊎ (length list ≢ mark-list) →
+    let reg = written given (new-content mode rules) in
+    trial-end (desk-calls-in s) reg list xs ≡ record { register = desk-run s reg (calls-made xs); marks = list }

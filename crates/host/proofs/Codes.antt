@@ -1,7 +1,7 @@
 -- Numbers and places as one number: they fit, and the number is the definition's.
 use Prim.Native.Nat.{ℕ, _+_, _*_, _≤_, _<_}
 use native.Mathlib.Omega.{arith}
-use mathlib.Core.Path.{_≡_, refl, sym, ap, _∙_}
+use mathlib.Core.Path.{_≡_, refl, sym, ap, ap₂, _∙_}
 use mathlib.Core.Logic.{inl, inr}
 use mathlib.Core.Bool.{Bool}
 use mathlib.Core.List.{List}
@@ -12,18 +12,18 @@ use Rattle.logic.specs.Result.{Result, ok, refused, number-of, place-of, withou
 use Rattle.logic.specs.Term.{Term, size}
 use Rattle.logic.proofs.Words.{encode-size}
 use Rattle.logic.proofs.Results.{ok-inj, bound}
-use Rattle.logic.proofs.Stopped.{not-mapped}
+use Rattle.logic.proofs.Stopped.{not-refused, number-is, place-is, not-mapped}
 use Rattle.rules.specs.declared.derivation.Derivation.{Derivation}
 use Rattle.rules.specs.declared.derivation.Derivation.the-variants.{Typed, Refused}
 use Rattle.words.specs.declared.verdict.Verdict.{Verdict}
-use Rattle.words.specs.declared.verdict.Verdict.the-variants.{Passed, Refused as VerdictRefused}
+use Rattle.words.specs.declared.verdict.Verdict.the-variants.{Refused as VerdictRefused}
 use Rattle.words.specs.Verdict.{verdict-answer}
 use Rattle.typing.specs.Check.{Judged}
-use Rattle.words.proofs.Verdicts.{passed-told}
 use Rattle.register.specs.Records.{Statement, Ask}
 use Rattle.register.specs.Calls.{Lent, open-call, say-call, request-call, check-call}
+use Rattle.register.specs.Marks.{mark-call, return-call}
 use Rattle.register.specs.Batch.{most-items, all-granted, refused-at, batch-call}
-use Rattle.register.proofs.Bounds.{Number, open-bound, say-bound, request-bound, check-bound, batch-bound}
+use Rattle.register.proofs.Bounds.{Number, MarkNumber, ReturnNumber, open-bound, say-bound, request-bound, check-bound, batch-bound, mark-bound, return-bound}
 use Rattle.shared_tests.proofs.OwnTests.{words-within}
 use Rattle.check_call.proofs.Checks.{handed-type, handed-nothing}
 use Rattle.say.specs.Said.{said-answer, SaysAs}
@@ -51,12 +51,8 @@ use Rattle.reduction.proofs.Refuses.{simplify-bound}
 use Rattle.simplify.specs.Answers.{simplification-answer, SimplifiedAs}
 use Rattle.simplify.specs.declared.reduce.Simplification.{Simplification}
 use Rattle.simplify.specs.declared.reduce.Simplification.the-variants.{Done, Refused as SimplifyRefused}
-use Rattle.host.specs.Answers.{number-unit, place-limit, code-of, added-of, SaidTo, batch-code-of, index-of, BatchedTo}
+use Rattle.host.specs.Answers.{number-unit, place-limit, code-of, Fits, Tellable, added-of, SaidTo, batch-code-of, index-of, BatchedTo}
 use Rattle.host.specs.Answers.{written-of, ConvertedTo, count-of, CountedTo, steps-of, SimplifiedTo, TypedTo}
-
--- a number and a place that make up an answer
-abbrev pub Fits : ℕ → ℕ → Type 0
-Fits m p = (m ≤ last-refusal) × (p < place-limit)
 
 -- the code of what was handed back
 pub handed-code : {X : Type 0} (o : Result X) {m p : ℕ} → m ≡ number-of o → p ≡ place-of o → m * number-unit + p ≡ code-of o
@@ -74,20 +70,43 @@ handed-fits (refused m p) bound f h e g = let (n, l) = f m p refl in omega arith
 pub refused-code : {X : Type 0} (o : Result X) (m p code : ℕ) → o ≡ refused m p → code ≡ m * number-unit + p → code ≡ code-of o
 refused-code o m p code e c = c ∙ sym (ap code-of e)
 
--- ---- open and request
+-- ---- calls that answer a verdict
 
-pub opened-code : {X : Type 0} (o : Result X) (r : Verdict) → verdict-answer r ≡ without-value o → r ≡ Passed → 0 ≡ code-of o
-opened-code o r v q = let (x, e) = passed-told o r v q in ap code-of (sym e)
+-- it is told as the call's answer is
+pub told-fits : {X : Type 0} (o : Result X) (r : Verdict) → verdict-answer r ≡ without-value o → Tellable o → Tellable (verdict-answer r)
+told-fits (ok x) r v f m p e = absurd (not-refused (sym v ∙ e))
+told-fits (refused a b) r v f m p e = let q = sym v ∙ e in f m p (ap₂ refused (number-is q) (place-is q))
 
-module _ (o : Result (Unit {0})) (r : Verdict) (v : verdict-answer r ≡ o) where
-  pub granted-code : r ≡ Passed → 0 ≡ code-of o
-  granted-code q = ap code-of (sym (ap verdict-answer q) ∙ v)
+pub told-code : {X : Type 0} (o : Result X) (r : Verdict) (code : ℕ) → verdict-answer r ≡ without-value o → code ≡ code-of (verdict-answer r) → code ≡ code-of o
+told-code (ok x) r code v c = c ∙ ap code-of v
+told-code (refused a b) r code v c = c ∙ ap code-of v
 
-  pub not-granted-is : (m p : ℕ) → r ≡ VerdictRefused m p → o ≡ refused m p
-  not-granted-is m p q = sym v ∙ ap verdict-answer q
+-- a request's answer has no value
+pub granted-fits : (o : Result (Unit {0})) (r : Verdict) → verdict-answer r ≡ o → Tellable o → Tellable (verdict-answer r)
+granted-fits o r v f m p e = f m p (sym v ∙ e)
 
-pub open-fits : (l : Lent) (reg rules : List ℕ) (m p : ℕ) → length (l .sig) + length rules < place-limit → open-call l reg rules ≡ refused m p → Fits m p
-open-fits l reg rules m p h e = let (n, q) = open-bound l reg rules e in omega arith
+pub granted-code : (o : Result (Unit {0})) (r : Verdict) (code : ℕ) → verdict-answer r ≡ o → code ≡ code-of (verdict-answer r) → code ≡ code-of o
+granted-code o r code v c = c ∙ ap code-of v
+
+pub open-fits : (l : Lent) (reg : List ℕ) (mode : ℕ) (rules : List ℕ) (m p : ℕ) → length (l .sig) + length rules < place-limit →
+    open-call l reg mode rules ≡ refused m p → Fits m p
+open-fits l reg mode rules m p h e = let (n, q) = open-bound l reg mode rules e in omega arith
+
+-- the numbers of a mark call
+return-number : {m : ℕ} → ReturnNumber m → m ≤ last-refusal
+return-number (inl e) = omega (arith, e)
+return-number (inr (inl e)) = omega (arith, e)
+return-number (inr (inr e)) = omega (arith, e)
+
+mark-number : {m : ℕ} → MarkNumber m → m ≤ last-refusal
+mark-number (inl e) = omega (arith, e)
+mark-number (inr k) = return-number k
+
+pub mark-fits : (reg list : List ℕ) (n m p : ℕ) → mark-call reg list n ≡ refused m p → Fits m p
+mark-fits reg list n m p e = let (k, q) = mark-bound reg list n e in (mark-number k, omega (arith, q))
+
+pub return-fits : (reg list : List ℕ) (n m p : ℕ) → return-call reg list n ≡ refused m p → Fits m p
+return-fits reg list n m p e = let (k, q) = return-bound reg list n e in (return-number k, omega (arith, q))
 
 pub request-fits : (l : Lent) (reg : List ℕ) (k : Ask) (m p : ℕ) → length (l .sig) + length (k .proof) < place-limit →
     request-call l reg k ≡ refused m p → Fits m p

@@ -18,7 +18,7 @@ use Rattle.register.specs.Calls.{read-call, body-of, kind-of}
 use Rattle.register.proofs.Bounds.{read-bound}
 use Rattle.register.proofs.Words.{words-append}
 use Rattle.records.specs.Items.{RecordsAt}
-use Rattle.read_call.specs.Read.{Among}
+use Rattle.read_call.specs.Read.{Reachable}
 use Rattle.records.proofs.Items.{record-words, records-there}
 use Rattle.records.proofs.Walks.{body-from, body-to}
 use Rattle.read_call.proofs.ReadAnswers.{Reached, reached-bounds, read-there}
@@ -48,7 +48,7 @@ part-words xs j = ap (λ (l : List ℕ). take (length (take j xs)) l) (sym (take
 
 -- a record that is read is among the register's
 pub record Present (reg : List ℕ) (k : ℕ) : Type 0 where
-  pub among : Among reg k
+  pub among : Reachable reg (k + 1)
   pub not-shorter : header ≤ length reg
   pub not-longer : length reg ≤ most-register
 
@@ -86,7 +86,7 @@ module _ (reg : List ℕ) (k m : ℕ) (n : m ≡ number-of (read-call reg k)) wh
           tested (leb header (length reg) && leb (length reg) most-register) _ _ _ e λ range e₁. bound (register-content reg) _ e₁ λ c u e₂.
           let (low, high) = both-true (leb header (length reg)) (leb (length reg) most-register) range in
           record {
-            among = record { found = c; reads = u; present = entry-within (c .records) k e₂ };
+            among = record { found = c; reads = u; passed = omega (arith, entry-within (c .records) k e₂) };
             not-shorter =
                 leb-true header (length reg) low;
             not-longer = leb-true (length reg) most-register high;
@@ -94,7 +94,7 @@ module _ (reg : List ℕ) (k m : ℕ) (n : m ≡ number-of (read-call reg k)) wh
 
 module _ (reg : List ℕ) (k : ℕ) (P : Present reg k) (at : ℕ) (R : Reached reg at k) where
   pub start-fits : at + record-head ≤ length reg
-  start-fits = let b = reached-bounds reg at k k (P .among) R (omega arith) in omega (arith, b .fits, b .within)
+  start-fits = let b = reached-bounds reg at k (k + 1) (P .among) R (omega arith) in omega (arith, b .fits, b .within)
 
   pub read-to : (kind : ℕ) (body : List ℕ) → kind ≡ kind-of (read-call reg k) → body ≡ body-of (read-call reg k) →
       ReadTo reg k kind (at + record-head) (length body) 0

@@ -1,13 +1,15 @@
 -- What a host program in C gets: the answer as one 64-bit number, and what stands in the buffers that it lent.
-use Prim.Native.Nat.{ℕ, _+_, _*_}
+use Prim.Native.Nat.{ℕ, _+_, _*_, _≤_, _<_}
 use mathlib.Core.Path.{_≡_}
 use mathlib.Core.Bool.{Bool, true, false}
 use mathlib.Core.List.{List}
 use lib.ListN.{length, take, drop}
+use Rattle.logic.specs.Refusals.{last-refusal}
 use Rattle.logic.specs.Result.{Result, ok, refused, _>>=_, _>>_, without-value}
 use Rattle.logic.specs.Term.{Term}
 use Rattle.register.specs.Records.{Statement, Ask, record-head, used-by, register-content}
 use Rattle.register.specs.Calls.{Lent, open-call, after-open, say-call, after-say, request-call, after-request, type-of, read-call, body-of, kind-of}
+use Rattle.register.specs.Marks.{mark-call, after-mark, return-call, after-return, marks-after-return, marks-after-open}
 use Rattle.register.specs.Batch.{Batched, all-granted, refused-at, batch-call, batch-leaves}
 use Rattle.words.specs.Place.{after-write}
 use Rattle.extract.specs.Extract.{extract-call}
@@ -26,10 +28,28 @@ abbrev pub code-of : {X : Type 0} → Result X → ℕ
 code-of (ok x) = 0
 code-of (refused m p) = m * number-unit + p
 
+-- a number and a place that make up an answer, and an answer whose refusal does
+abbrev pub Fits : (number place : ℕ) → Type 0
+Fits m p = (m ≤ last-refusal) × (p < place-limit)
+
+abbrev pub Tellable : {X : Type 0} → Result X → Type 0
+Tellable o = (m p : ℕ) → o ≡ refused m p → Fits m p
+
 -- an open
-pub record OpenedTo (l : Lent) (old rules new : List ℕ) (code : ℕ) : Type 0 where
-  pub answer : code ≡ code-of (open-call l old rules)
-  pub register : new ≡ after-open (open-call l old rules) old
+pub record OpenedTo (l : Lent) (old list : List ℕ) (mode : ℕ) (rules new new-list : List ℕ) (code : ℕ) : Type 0 where
+  pub answer : code ≡ code-of (open-call l old mode rules)
+  pub register : new ≡ after-open (open-call l old mode rules) old mode
+  pub marks : new-list ≡ marks-after-open (open-call l old mode rules) list
+
+-- a mark that is set, and a return to one
+pub record MarkedTo (reg list : List ℕ) (n : ℕ) (new-list : List ℕ) (code : ℕ) : Type 0 where
+  pub answer : code ≡ code-of (mark-call reg list n)
+  pub marks : new-list ≡ after-mark (mark-call reg list n) list
+
+pub record ReturnedTo (old list : List ℕ) (n : ℕ) (new new-list : List ℕ) (code : ℕ) : Type 0 where
+  pub answer : code ≡ code-of (return-call old list n)
+  pub register : new ≡ after-return (return-call old list n) old
+  pub marks : new-list ≡ marks-after-return (return-call old list n) list
 
 -- a say: 1 where it added a record, else 0
 abbrev pub added-of : Result Bool → ℕ

@@ -1,10 +1,12 @@
 // "A host program in C calls check and request": extern "C" entry points on numbers and lent slices, thin over the
-// proved check and request, and over open, say, batch, read and extract alike. include/aura0.h declares them. An answer
-// is the refusal's number times 4294967296 plus the place, 0 for success.
+// proved check and request, and over open, say, batch, read, extract, mark and return alike. include/aura0.h declares
+// them. An answer is the refusal's number times 4294967296 plus the place, 0 for success.
 use batch::batch;
 use batch_tests::Batched;
 use check_call::check;
 use check_call::judge;
+use marks::mark;
+use marks::return_to;
 use named::convert::Conversion;
 use named::convert::from_named;
 use named::convert::to_named;
@@ -22,45 +24,74 @@ use uses::Counted;
 use uses::uses;
 use words::verdict::Verdict;
 ghost use mathlib.Core.Path.{_≡_};
-ghost use Prim.Native.Nat.{_+_, _*_, _≤_, _<_};
+ghost use Prim.Native.Nat.{_+_, _*_};
 ghost use lib.ListN.{length};
-ghost use Rattle.logic.specs.Refusals.{last-refusal};
 ghost use Rattle.register.specs.Records.{statement-of, ask-of};
 ghost use Rattle.register.specs.Calls.{check-call};
 ghost use Rattle.shared_tests.specs.Shared.{lent-of};
 ghost use Rattle.editions.specs.Convert.{from-named, to-named};
 ghost use Rattle.uses.specs.Uses.{uses-call};
 ghost use Rattle.reduction.specs.Call.{simplify-call};
-ghost use Rattle.host.specs.Answers.{number-unit, place-limit, code-of};
-ghost use Rattle.host.specs.Answers.{OpenedTo, SaidTo, RequestedTo, BatchedTo, ExtractedTo, ConvertedTo, CountedTo, SimplifiedTo, TypedTo, ReadTo};
+ghost use Rattle.words.specs.Verdict.{verdict-answer};
+ghost use Rattle.host.specs.Answers.{number-unit, code-of, Fits, Tellable};
+ghost use Rattle.host.specs.Answers.{OpenedTo, MarkedTo, ReturnedTo, SaidTo, RequestedTo, BatchedTo, ExtractedTo, ConvertedTo, CountedTo};
+ghost use Rattle.host.specs.Answers.{SimplifiedTo, TypedTo, ReadTo};
 
 // What a refusal's number is multiplied by.
 const NUMBER_UNIT: u64 = 4294967296;
 
 fn code(number: u32, place: usize) -> u64
-    requires { ⌜ (number ≤ last-refusal) × (place < place-limit) ⌝ }
+    requires { ⌜ Fits number place ⌝ }
     ensures { λ r. ⌜ r ≡ number * number-unit + place ⌝ }
 {
     (number as u64) * NUMBER_UNIT + (place as u64)
 }
 
-// Open: the register written anew with the rules.
-#[no_mangle]
-pub extern "C" fn aura0_open(
-    signature: &[u32],
-    n: u32,
-    register: &mut [u32],
-    rules: &[u32],
-    workspace: &mut [u32],
-) -> u64
-    ensures { λ r. ⌜ OpenedTo (lent-of (now (signature .entry)) n (now (workspace .entry))) (now (register .entry)) (now (rules .entry))
-        (now (register .exit)) r ⌝ }
+// A verdict as one number.
+fn answer(verdict: Verdict) -> u64
+    requires { ⌜ Tellable (verdict-answer verdict) ⌝ }
+    ensures { λ r. ⌜ r ≡ code-of (verdict-answer verdict) ⌝ }
 {
-    let verdict = open(signature, n, register, rules, workspace);
     match verdict {
         Verdict::Passed => 0,
         Verdict::Refused { number, place } => code(number, place),
     }
+}
+
+// Open: the register written anew with the rules, and no mark left standing.
+#[no_mangle]
+pub extern "C" fn aura0_open(
+    signature: &[u32],
+    n: u32,
+    mode: u32,
+    register: &mut [u32],
+    marks: &mut [u32],
+    rules: &[u32],
+    workspace: &mut [u32],
+) -> u64
+    ensures { λ r. ⌜ OpenedTo (lent-of (now (signature .entry)) n (now (workspace .entry))) (now (register .entry)) (now (marks .entry)) mode
+        (now (rules .entry)) (now (register .exit)) (now (marks .exit)) r ⌝ }
+{
+    let verdict = open(signature, n, mode, register, marks, rules, workspace);
+    answer(verdict)
+}
+
+// Mark: a mark set at the end of a trial register's records.
+#[no_mangle]
+pub extern "C" fn aura0_mark(register: &[u32], marks: &mut [u32], number: u32) -> u64
+    ensures { λ r. ⌜ MarkedTo (now (register .entry)) (now (marks .entry)) number (now (marks .exit)) r ⌝ }
+{
+    let verdict = mark(register, marks, number);
+    answer(verdict)
+}
+
+// Return: a trial register brought back to a mark.
+#[no_mangle]
+pub extern "C" fn aura0_return(register: &mut [u32], marks: &mut [u32], number: u32) -> u64
+    ensures { λ r. ⌜ ReturnedTo (now (register .entry)) (now (marks .entry)) number (now (register .exit)) (now (marks .exit)) r ⌝ }
+{
+    let verdict = return_to(register, marks, number);
+    answer(verdict)
 }
 
 // Say: `added` is 1 where a record was added, else 0.
@@ -134,10 +165,7 @@ pub extern "C" fn aura0_request(
         proof,
         workspace,
     );
-    match verdict {
-        Verdict::Passed => 0,
-        Verdict::Refused { number, place } => code(number, place),
-    }
+    answer(verdict)
 }
 
 // Batch: `index` is that of the item refused, 0 where all are granted.
@@ -206,10 +234,7 @@ pub extern "C" fn aura0_extract(
         surveys,
         output,
     );
-    match verdict {
-        Verdict::Passed => 0,
-        Verdict::Refused { number, place } => code(number, place),
-    }
+    answer(verdict)
 }
 
 // Check, without the type.

@@ -10,7 +10,7 @@ use borrow.Author.Tests.{leb-true, leb-false, le-leb, lt-leb}
 use native.Mathlib.Omega.{arith}
 use Rattle.logic.specs.Limits.{most-words, most-nesting}
 use Rattle.logic.specs.Refusals.{nesting, out-of-form, unbound, step-remains}
-use Rattle.logic.specs.Result.{Result, ok, refused, _>>=_}
+use Rattle.logic.specs.Result.{Result, ok, refused, _>>=_, _>>_}
 use Rattle.logic.specs.Term.{Term, size, encode}
 use Rattle.logic.specs.Check.{term-of}
 use Rattle.logic.proofs.Words.{encode-size}
@@ -21,12 +21,13 @@ use Rattle.logic.proofs.Check.{term-of-right}
 use Rattle.register.specs.Calls.{Lent, check-call}
 use Rattle.register.specs.Succeeds.{Checkable}
 use Rattle.register.proofs.Succeeds.{demand2}
+use Rattle.register.proofs.Unread.{unread}
 use Rattle.register.proofs.Bounds.{check-bound}
 use Rattle.register.proofs.Refuses.{demand1}
 use Rattle.words.proofs.Lists.{written-front, written-behind}
 use Rattle.words.specs.Place.{written-at}
 use Rattle.reduction.specs.Simplify.{Simplified, simplify, Finished, ended-6, ended-8, ended-26}
-use Rattle.reduction.specs.Call.{fitting-result, simplify-call, after-simplify}
+use Rattle.reduction.specs.Call.{fitting-result, simplify-own, simplify-call, after-simplify}
 use Rattle.reduction.specs.Refuses.{SimplifyRefused, simplify-check, simplify-ended, simplify-25, Simplifiable, SimplifyDemands}
 use Rattle.reduction.proofs.Simplify.{simplify-right, simplify-refused}
 
@@ -106,4 +107,5 @@ simplify-demands = record {
       (λ m p. (row-refused l reg day ws budget room m p, refused-row l reg day ws budget room));
   unchanged = λ {l} {reg} {day} {ws} {budget} {room} old h. ap (λ o. after-simplify o old) (refused-row l reg day ws budget room h);
   written = written;
+  unread = λ l day ws budget room f. ap (λ o. o >> simplify-own budget room ws) (unread .checks l day ws f);
 }

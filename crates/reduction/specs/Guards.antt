@@ -68,7 +68,7 @@ abbrev on : List ℕ → Term → (budget room : ℕ) → Result Simplified
 on reg t budget room = simplify-call (lent setting 12288) reg 15 (encode t) budget room
 
 abbrev said-register : List ℕ
-said-register = run setting (opened-sample 70) (say-consent ∷ [])
+said-register = run setting (opened-sample 71) (say-consent ∷ [])
 
 abbrev call : Term → (budget room : ℕ) → Result Simplified
 call = on said-register
@@ -135,7 +135,7 @@ pub record SimplifyGuards : Type 0 where
   -- "Check's tests come first"
   pub empty-first : simplify-call (lent setting 12288) said-register 15 [] 0 0 ≡ refused 6 0
   pub typed-first : call (App (Lam (Says (Name 3) consent) (var 0)) (Name 3)) 0 0 ≡ refused 19 0
-  pub signs-first : on (opened-sample 70) longer-p 0 0 ≡ refused 14 46
+  pub signs-first : on (opened-sample 71) longer-p 0 0 ≡ refused 14 46
   pub lapsed-first : simplify-call (lent setting 12288) said-register 19 (encode longer-p) 0 0 ≡ refused 22 46
   pub workspace-first : simplify-call (lent setting 12287) said-register 15 (encode longer-p) 0 0 ≡ refused 1 0
   -- check makes no 23: the latest day is 15

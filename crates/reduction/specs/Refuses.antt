@@ -11,6 +11,7 @@ use Rattle.logic.specs.Term.{Term, size, encode}
 use Rattle.register.specs.Calls.{Lent}
 use Rattle.register.specs.Succeeds.{Checkable}
 use Rattle.register.specs.Refuses.{CheckRefused}
+use Rattle.register.specs.Unread.{SameFront}
 use Rattle.reduction.specs.Simplify.{Simplified, Finished, Ended}
 use Rattle.reduction.specs.Call.{simplify-call, after-simplify}
 
@@ -43,3 +44,6 @@ pub record SimplifyDemands : Type 0 where
       Simplifiable l reg day ws budget (length old) r →
       let new = after-simplify (simplify-call l reg day ws budget (length old)) old in
       (take (size (r .result)) new ≡ encode (r .result)) × (drop (size (r .result)) new ≡ drop (size (r .result)) old)
+  -- words of the register past the used count are unread
+  pub unread : {reg reg′ : List ℕ} (l : Lent) (day : ℕ) (ws : List ℕ) (budget room : ℕ) → SameFront reg reg′ →
+      simplify-call l reg day ws budget room ≡ simplify-call l reg′ day ws budget room

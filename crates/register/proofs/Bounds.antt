@@ -2,7 +2,7 @@
 -- place within what was lent.
 use Prim.Native.Nat.{ℕ, zero, suc, _+_, _≤_, _<_}
 use mathlib.Core.Path.{_≡_, refl, sym, ap, _∙_, subst}
-use mathlib.Core.Logic.{_≢_}
+use mathlib.Core.Logic.{_⊎_, inl, inr, _≢_}
 use mathlib.Core.Bool.{Bool, true, false, _&&_, not, cond}
 use mathlib.Core.List.{List, [], _∷_, _++_}
 use mathlib.Core.Option.{Option, some, none}
@@ -12,7 +12,8 @@ use lib.ListN.{length, take, drop, getElem?, length-drop, length-append}
 use borrow.Author.Tests.{leb-true}
 use Rattle.logic.specs.Limits.{most-type-words, most-words, most-nesting, most-statement-words, most-statement-nesting}
 use Rattle.logic.specs.Limits.{least-workspace, most-register, most-constants, most-constant-words}
-use Rattle.logic.specs.Refusals.{bad-signature, bad-number, malformed, out-of-form, not-held, held-outside, day-before-latest}
+use Rattle.logic.specs.Refusals.{register-length, register-broken, bad-signature, bad-number, malformed, not-held, out-of-form, held-outside}
+use Rattle.logic.specs.Refusals.{day-before-latest, no-mark, marks-full}
 use Rattle.logic.specs.Result.{Result, ok, refused, _>>=_, _>>_, require, known, nowhere}
 use Rattle.logic.specs.Term.{propA, typeA, stringA, prinA, kindPA, kindTA, constA, textA, nameA, saysO, piO, lamO, appO}
 use Rattle.logic.specs.Term.{retO, bindO, Atom, Term, atom, var, sign, node, P, N, Name, Says, Pi, encode, size}
@@ -28,7 +29,8 @@ use Rattle.logic.proofs.Reading.{read-right}
 use Rattle.logic.proofs.Malformed.{read-refused}
 use Rattle.logic.proofs.Searches.{too-deep-first, first-miss-first}
 use Rattle.logic.proofs.Places.{stands-words}
-use Rattle.register.specs.Records.{Record, Statement, Ask, Content, Holds, covered, lapsed, unheld, Next, ended, cut, whole, header, rule-head}
+use Rattle.register.specs.Records.{Record, Statement, Ask, Content, Holds, covered, lapsed, unheld, Next, ended, cut, whole, header, mode-test}
+use Rattle.register.specs.Records.{register-mode, rule-head}
 use Rattle.register.specs.Records.{no-kind, used, count, latest, records, recorded, register-content, statements, holding, words-of, next-rule}
 use Rattle.register.specs.Calls.{Lent, Outline, View, outline-of, fresh-outline, Holding, length-test, shared, sign-refusal, unmissed, signs-held}
 use Rattle.register.specs.Calls.{on-register, day-test, after-request, fits, check-own, check-call, statement-test, say-own, say-call, permission}
@@ -36,11 +38,15 @@ use Rattle.register.specs.Calls.{say-entry, entry, ask-test, request-own
 use Rattle.register.specs.Calls.{at-rule, with-rule, rule-numbers, rule-own, opening, open-own, new-content, open-call, read-call}
 use Rattle.register.specs.Batch.{most-items, NextItem, no-item, cut-item, whole-item, next-item, item-before, item-list, items}
 use Rattle.register.specs.Batch.{Batched, all-granted, refused-at, at-index, in-turn, items-call, batch-call}
+use Rattle.register.specs.Marks.{mark-call, return-call}
+use Rattle.register.specs.Refuses.{TrialRefused, trial-2, trial-3, trial-27, MarkRefused, mark-trial, mark-27, mark-28}
+use Rattle.register.specs.Refuses.{ReturnRefused, return-trial, return-27-list, return-27-unknown, return-27-end}
+use Rattle.register.proofs.MarkRefused.{mark-refused, return-refused}
 use Rattle.register.proofs.Opening.{next-rule-rest}
 use Rattle.register.proofs.Batch.{next-item-rest}
 
 -- a refusal number of document 01 or 02, of a call on the register: 21 is the extract desk's alone, and those above 23
--- are the converters' and simplify's
+-- are the converters', simplify's and the mark calls'
 abbrev pub Number : ℕ → Type 0
 Number m = (1 ≤ m) × (m ≤ day-before-latest) × (m ≢ out-of-form)
 
@@ -256,9 +262,11 @@ length-within len = require-within (leb header len && leb len most-register) _ 0
 content-within : (reg : List ℕ) → Within 0 (register-content reg)
 content-within reg =
     tested-within (leb header (used reg) && leb (used reg) (length reg)) _ 0 _ (omega arith) (omega arith) λ _.
+    tested-within (mode-test (register-mode reg)) _ 0 _ (omega arith) (omega arith) λ _.
     bind-within (known _ 0 (records (used reg) no-kind (recorded reg))) _
     (known-within _ 0 (records (used reg) no-kind (recorded reg)) (omega arith) (omega arith)) λ rs _.
-    tested-within (eqb (length rs) (count reg)) _ 0 (ok (record { latest = latest reg; records = rs })) (omega arith) (omega arith) λ _. passed
+    tested-within (eqb (length rs) (count reg)) _ 0 (ok (record { mode = register-mode reg; latest = latest reg; records = rs }))
+    (omega arith) (omega arith) λ _. passed
 
 module _ {Y : Type 0} {words : ℕ} (l : Lent) (o : Outline) where
   -- behind the shared tests, a call's own have places within its own words
@@ -323,8 +331,9 @@ opening-within {bound} (suc k) Σ at rs ws h = go (next-rule ws) refl (λ at rs 
         then-within (at-rule at (signs-held holds q)) _ (at-rule-within at (signs-held holds q) (omega arith) (signs-within holds q))
         (ih (at + rule-head + length (st .words)) (with-rule rs st) rest (omega (arith, next-rule-rest ws e))))
 
-open-own-within : (rules : List ℕ) (s : View) → Within (length rules) (open-own rules s)
-open-own-within rules s =
+open-own-within : (mode : ℕ) (rules : List ℕ) (s : View) → Within (length rules) (open-own mode rules s)
+open-own-within mode rules s =
+    tested-within (mode-test mode) _ 0 _ (omega arith) (omega arith) λ _.
     bind-within (opening (suc (length rules)) (s .Σ) 0 [] rules) _ (opening-within (suc (length rules)) (s .Σ) 0 [] rules (omega arith)) λ rs _.
     then-within (fits s rs) (ok rs) (fits-within s rs) passed
 
@@ -346,9 +355,10 @@ request-within l reg k = shared-within l (outline-of reg) (register-content reg)
 pub request-bound : (l : Lent) (reg : List ℕ) (k : Ask) {m p : ℕ} → request-call l reg k ≡ refused m p → Number m × (p ≤ length (l .sig) + length (k .proof))
 request-bound l reg k e = bounded-refusal (request-within l reg k) e
 
-pub open-bound : (l : Lent) (reg rules : List ℕ) {m p : ℕ} → open-call l reg rules ≡ refused m p → Number m × (p ≤ length (l .sig) + length rules)
-open-bound l reg rules e = bounded-refusal (shared-within l (fresh-outline (length reg)) (ok (new-content [])) (open-own rules) passed
-    (open-own-within rules)) e
+pub open-bound : (l : Lent) (reg : List ℕ) (mode : ℕ) (rules : List ℕ) {m p : ℕ} → open-call l reg mode rules ≡ refused m p →
+    Number m × (p ≤ length (l .sig) + length rules)
+open-bound l reg mode rules e = bounded-refusal (shared-within l (fresh-outline (length reg)) (ok (new-content mode [])) (open-own mode rules) passed
+    (open-own-within mode rules)) e
 
 -- a batch's refusal is at an index below 16, and has such a number and place
 data BatchWithin (bound : ℕ) : Batched → Type 0 where
@@ -416,3 +426,32 @@ read-within-none reg k =
 
 pub read-bound : (reg : List ℕ) (k : ℕ) {m p : ℕ} → read-call reg k ≡ refused m p → Number m × (p ≡ 0)
 read-bound reg k e = let (m, p) = bounded-refusal (read-within-none reg k) e in (m, omega arith)
+
+-- a mark call names no place, and its numbers are 2, 3 and 27, and 28 where a mark is set
+abbrev pub ReturnNumber : ℕ → Type 0
+ReturnNumber m = (m ≡ register-length) ⊎ (m ≡ register-broken) ⊎ (m ≡ no-mark)
+
+abbrev pub MarkNumber : ℕ → Type 0
+MarkNumber m = (m ≡ marks-full) ⊎ ReturnNumber m
+
+trial-bound : {reg : List ℕ} {m p : ℕ} → TrialRefused reg m p → ReturnNumber m × (p ≡ 0)
+trial-bound (trial-2 h) = (inl refl, refl)
+trial-bound (trial-3 h b) = (inr (inl refl), refl)
+trial-bound (trial-27 h) = (inr (inr refl), refl)
+
+pub mark-bound : (reg list : List ℕ) (n : ℕ) {m p : ℕ} → mark-call reg list n ≡ refused m p → MarkNumber m × (p ≡ 0)
+mark-bound reg list n {m} {p} e = go (mark-refused reg list n m p .0 e)
+  where
+    go : {m p : ℕ} → MarkRefused reg list n m p → MarkNumber m × (p ≡ 0)
+    go (mark-trial t) = let (m, p) = trial-bound t in (inr m, p)
+    go (mark-27 k h) = (inr (inr (inr refl)), refl)
+    go (mark-28 k l o h) = (inl refl, refl)
+
+pub return-bound : (reg list : List ℕ) (n : ℕ) {m p : ℕ} → return-call reg list n ≡ refused m p → ReturnNumber m × (p ≡ 0)
+return-bound reg list n {m} {p} e = go (return-refused reg list n m p .0 e)
+  where
+    go : {m p : ℕ} → ReturnRefused reg list n m p → ReturnNumber m × (p ≡ 0)
+    go (return-trial t) = trial-bound t
+    go (return-27-list k h) = (inr (inr refl), refl)
+    go (return-27-unknown k l u) = (inr (inr refl), refl)
+    go (return-27-end k l s h) = (inr (inr refl), refl)

@@ -6,9 +6,8 @@ use mathlib.Core.Option.{some}
 use native.Mathlib.Decide.{ℕ-discrete}
 use native.Mathlib.Omega.{arith}
 use Rattle.logic.specs.Term.{Term, sign, P, Const, Text, Name, Says, App, size, encode}
-use Rattle.logic.specs.Result.{ok}
 use Rattle.logic.specs.Move.{shift, fill-at, occurs}
-use Rattle.logic.specs.Reading.{read, read-whole, too-deep, first-miss, SubtermAt, root, in-sign, in-first, in-second, Embedded}
+use Rattle.logic.specs.Reading.{read, too-deep, first-miss, SubtermAt, root, in-sign, in-first, in-second, Embedded}
 use Rattle.logic.specs.Infer.{infer, same-term, conclusion}
 use Rattle.logic.specs.Worked.{sample, listed, consent}
 use Rattle.logic.specs.SignatureList.{constants, operations}
@@ -16,7 +15,7 @@ use Rattle.logic.proofs.Results.{ok-inj}
 use Rattle.logic.proofs.Check.{check-term-right}
 use Rattle.logic.proofs.SignatureList.{signature-right}
 use Rattle.logic.proofs.Signatures.{sample-signature}
-use Rattle.register.specs.Records.{ask-of, Content, records, words-of, statements-from, same-words, some-of, say-shape, Held}
+use Rattle.register.specs.Records.{ask-of, Content, records, words-of, statements-from, same-words, some-of, say-shape, release-mode, Held}
 use Rattle.register.specs.Calls.{outline-of, opening}
 use Rattle.register.specs.Batch.{item-list, asks, in-turn, after-requests}
 use Rattle.register.specs.Lapse.{HeldBefore}
@@ -37,7 +36,7 @@ same-without day c c′ t r n q e = absurd (no-sign n q (subst (λ t. Embedded n
 
 -- what such a register says
 abbrev said-content : ℕ → Content
-said-content a = record { latest = 5; records = record { kind = 2; body = a ∷ 1 ∷ 4 ∷ encode consent } ∷ [] }
+said-content a = record { mode = 0; latest = 5; records = record { kind = 2; body = a ∷ 1 ∷ 4 ∷ encode consent } ∷ [] }
 
 same-for-one : SameForAll (ask-of 0 7 9 6 (encode P) ∷ []) (said-content 3) (said-content 4)
 same-for-one = ((λ k m. rw (List·Memᴰ·eq-of-singleton m) (same-without 6 (said-content 3) (said-content 4))), refl)
@@ -68,7 +67,7 @@ first-held m r i d (in-second s) h = absurd (omega arith)
 held-before : HeldBefore (lent setting 12288) consents 6 (encode both-consents) 3 other-consent 5 consents-content
 unfolding infer same-term conclusion read too-deep shift fill-at occurs size encode ℕ-discrete constants operations words-of listed
 held-before = record {
-  unbroken = record { shape = (say-shape {n = 6} (omega arith), (say-shape {n = 6} (omega arith), tt)); tail = []; words = refl };
+  unbroken = record { known-mode = release-mode; shape = (say-shape {n = 6} (omega arith), (say-shape {n = 6} (omega arith), tt)); tail = []; words = refl };
   Σ = sample;
   ready = made-ready _ (outline-of consents) (omega arith) (omega arith, omega arith) (signature-right _ sample .0 refl) refl;
   t = both-consents;

@@ -5,17 +5,21 @@ use mathlib.Core.Bool.{true, false}
 use mathlib.Core.List.{List, [], _∷_, _++_, map, append-nil}
 use mathlib.Core.Option.{Option, some}
 use native.Mathlib.Omega.{arith}
-use lib.ListN.{length, drop}
+use lib.ListN.{length, drop, length-append}
 use lib.Seq.{drop-drop, drop-append-add}
+use Rattle.logic.specs.Result.{Result, ok, refused}
 use Rattle.register.specs.Records.{Record, Statement, Ask, Content, header, words-of, used, used-by, Unbroken, Shaped}
 use Rattle.register.specs.Records.{appended, written}
 use Rattle.register.specs.Calls.{Lent, say-entry, entry, new-content, after-open, after-say, after-request}
 use Rattle.register.specs.Batch.{items, asks, after-requests, batch-leaves, all-entries, ItemsOf}
 use Rattle.register.specs.BatchTests.{AllOn}
-use Rattle.register.specs.Succeeds.{Adds, added-now, GrantableInTurn, no-request, one-request, Batchable, together}
+use Rattle.register.specs.Succeeds.{Adds, added-now, GrantableInTurn, no-request, one-request, Batchable, together, Markable, Returnable}
 use Rattle.register.specs.History.{grown}
-use Rattle.register.specs.Leaves.{Leaves, Leaving}
+use Rattle.register.specs.Marks.{Mark, mark-of, MarkList, with-marks, spot-at-end, Returned, restored, cleared}
+use Rattle.register.specs.Marks.{returned-to, return-call, after-mark, after-return, marks-after-return, marks-after-open}
+use Rattle.register.specs.Leaves.{Leaves, LeavesMarks, Restores, Leaving}
 use Rattle.register.proofs.Words.{words-grown, register-of, register-of-appended, Stores, stores-used, stores-appended, stores-fit}
+use Rattle.register.proofs.Marks.{marks-put, marks-behind, stands-only, stores-restored, up-to-fewer, cleared-marks, cleared-none}
 use Rattle.register.proofs.Succeeds.{demand2}
 use Rattle.register.proofs.Opening.{opened-stores}
 use Rattle.register.proofs.Batch.{batches}
@@ -25,12 +29,12 @@ use Rattle.register.proofs.Step.{say-shaped, entry-shaped, content-behi
 behind-records : (c : Content) (tail : List ℕ) (n : ℕ) → drop (used-by (c .records) + n) (register-of c tail) ≡ drop n tail
 behind-records c tail n =
     let W = length (words-of (c .records)) in
-    let s : header + W + n ≡ suc (suc (suc (W + n))) = omega arith in
+    let s : header + W + n ≡ suc (suc (suc (suc (W + n)))) = omega arith in
     ap (λ k. drop k (register-of c tail)) s ∙ drop-append-add (words-of (c .records)) tail n
 
 -- records added to a register that has room for them, with the new latest day
 adds-leave : {reg : List ℕ} {c : Content} (day : ℕ) (new : List Record) → Unbroken reg c → ((before : ℕ) → Shaped before new) →
-    used reg + length (words-of new) ≤ length reg → Leaves reg day (c .records ++ new) (appended reg day new)
+    used reg + length (words-of new) ≤ length reg → Leaves reg (c .mode) day (c .records ++ new) (appended reg day new)
 adds-leave {reg} {c} day new u s room = record { unbroken = after .unbroken; size = after .size; behind = there ∙ sym here }
   where
     stored : Stores (length reg) c reg
@@ -54,20 +58,20 @@ adds-leave {reg} {c} day new u s room = record { unbroken = after .unbroken; siz
         ∙ behind-records (grown c day new) (drop N (u .tail)) 0
 
 -- no records, and the new latest day
-day-leaves : {reg : List ℕ} {c : Content} (day : ℕ) → Unbroken reg c → Leaves reg day (c .records) (appended reg day [])
+day-leaves : {reg : List ℕ} {c : Content} (day : ℕ) → Unbroken reg c → Leaves reg (c .mode) day (c .records) (appended reg day [])
 unfolding words-of
 day-leaves {reg} {c} day u =
     let stored : Stores (length reg) c reg = record { unbroken = u; size = refl } in
-    subst (λ rs. Leaves reg day rs (appended reg day [])) (append-nil (c .records))
+    subst (λ rs. Leaves reg (c .mode) day rs (appended reg day [])) (append-nil (c .records))
     (adds-leave day [] u (λ before. tt) (omega (arith, stores-used stored, stores-fit stored)))
 
 -- a register that was opened
-opening-leaves : (reg : List ℕ) (rs : List Record) → Stores (length reg) (new-content rs) (written reg (new-content rs)) →
-    Leaves reg 0 rs (written reg (new-content rs))
-opening-leaves reg rs st = record {
+opening-leaves : (reg : List ℕ) (mode : ℕ) (rs : List Record) → Stores (length reg) (new-content mode rs) (written reg (new-content mode rs)) →
+    Leaves reg mode 0 rs (written reg (new-content mode rs))
+opening-leaves reg mode rs st = record {
   unbroken = st .unbroken;
   size = st .size;
-  behind = ap (λ k. drop k (written reg (new-content rs))) more ∙ behind-records (new-content rs) (drop (used-by rs) reg) 0;
+  behind = ap (λ k. drop k (written reg (new-content mode rs))) more ∙ behind-records (new-content mode rs) (drop (used-by rs) reg) 0;
 }
   where
     more : used-by rs ≡ used-by rs + 0
@@ -77,8 +81,8 @@ room-of : {rs : List Record} {reg : List ℕ} {st : Statement} → Adds rs reg s
 room-of (added-now n room) = room
 
 -- what is left behind what was left before, where no fewer words are used
-leaves-after : {old mid new : List ℕ} {d d′ : ℕ} {rs rs′ : List Record} → used mid ≤ used new → Leaves old d rs mid → Leaves mid d′ rs′ new →
-    Leaves old d′ rs′ new
+leaves-after : {old mid new : List ℕ} {mode mode′ d d′ : ℕ} {rs rs′ : List Record} → used mid ≤ used new → Leaves old mode d rs mid →
+    Leaves mid mode′ d′ rs′ new → Leaves old mode′ d′ rs′ new
 leaves-after {old} {mid} {new} h x y =
     let n = used new - used mid in
     let e : used new ≡ used mid + n = omega arith in
@@ -90,7 +94,7 @@ leaves-after {old} {mid} {new} h x y =
 
 -- new is left of old with the content c, and uses no fewer words
 abbrev LeftInTurn : (old : List ℕ) → Content → (new : List ℕ) → Type 0
-LeftInTurn old c new = (used old ≤ used new) × Leaves old (c .latest) (c .records) new
+LeftInTurn old c new = (used old ≤ used new) × Leaves old (c .mode) (c .latest) (c .records) new
 
 -- requests that are granted in turn leave the content behind them
 in-turn-leave : {l : Lent} {reg : List ℕ} {xs : List (Option Ask)} (c : Content) → GrantableInTurn l reg xs → Unbroken reg c →
@@ -111,7 +115,8 @@ asks-some (k ∷ ks) = ap (λ (l : List Ask). k ∷ l) (asks-some ks)
 
 -- a batch whose items are the requests k ∷ ks
 batch-leaving : {l : Lent} {reg : List ℕ} {day : ℕ} {ws : List ℕ} {c : Content} (k : Ask) (ks : List Ask) → ItemsOf day ws (map some (k ∷ ks)) →
-    Batchable l reg day (map some (k ∷ ks)) → Unbroken reg c → Leaves reg day (c .records ++ all-entries (k ∷ ks)) (batch-leaves l reg day ws)
+    Batchable l reg day (map some (k ∷ ks)) → Unbroken reg c →
+    Leaves reg (c .mode) day (c .records ++ all-entries (k ∷ ks)) (batch-leaves l reg day ws)
 batch-leaving {l} {reg} {day} {ws} {c} k ks o (together few g) u =
     let those : asks (items day ws) ≡ k ∷ ks = ap asks (batches .listed day ws (map some (k ∷ ks)) .1 o) ∙ asks-some (k ∷ ks) in
     let content = content-behind-is c day (k ∷ ks) (subst (AllOn day) those (items-day (length ws) day ws)) in
@@ -119,18 +124,58 @@ batch-leaving {l} {reg} {day} {ws} {c} k ks o (together few g) u =
     rw (demand2 .batches l reg day ws (map some (k ∷ ks)) o .1 (together few g), those)
     (subst (λ c. LeftInTurn reg c (after-requests l reg (k ∷ ks))) content left .1)
 
+-- a list of marks that an opening clears
+cleared-behind : (list : List ℕ) → drop 1 (cleared list) ≡ drop 1 list
+cleared-behind [] = refl
+cleared-behind (n ∷ ws) = refl
+
+-- a mark that is set, and a return to one
+marked-leaves : {reg list : List ℕ} {n : ℕ} {after : List Mark} → Markable reg list n after → LeavesMarks list after (with-marks list after)
+marked-leaves {list} {n} {after} h =
+    let few : length after ≤ 8 = omega (arith, h .no-ninth, ap length (h .set), length-append (h .rest) (mark-of n (spot-at-end (h .content)) ∷ [])) in
+    record { listed = marks-put list after (h .listed .size) few; behind = marks-behind list after }
+
+returned-leaves : {reg list : List ℕ} {n : ℕ} {r : Returned} (h : Returnable reg list n r) →
+    Restores reg (h .content) (r .spot) (restored reg (r .spot)) × LeavesMarks list (r .marks) (with-marks list (r .marks))
+returned-leaves {reg} {list} {n} {r} h =
+    let st = stores-restored {len = length reg} (r .spot) (record { unbroken = h .on-trial .unbroken; size = refl }) (h .ends) in
+    let few : length (r .marks) ≤ 8 = omega (arith, ap length (stands-only n (h .stands) .1), up-to-fewer n (h .ms), h .listed .few) in (
+      record { unbroken = st .unbroken; size = st .size; behind = refl },
+      record { listed = marks-put list (r .marks) (h .listed .size) few; behind = marks-behind list (r .marks) },
+    )
+
+returned-whole : (reg list : List ℕ) (n : ℕ) {c : Content} → Unbroken reg c → (left : Content) × Unbroken (after-return (return-call reg list n) reg) left
+returned-whole reg list n {c} u = go (return-call reg list n) refl
+  where
+    go : (r : Result Returned) → return-call reg list n ≡ r → (left : Content) × Unbroken (after-return r reg) left
+    go (ok x) e = let h = demand2 .returns reg list n x .0 e in (returned-to (h .content) (x .spot), returned-leaves h .0 .unbroken)
+    go (refused m p) e = (c, u)
+
 pub leaving : Leaving
 leaving = record {
-  opened = λ {l} {reg} {rules} {rs} h.
-      let e = demand2 .opens l reg rules rs .1 h in
-      subst (λ r. Leaves reg 0 rs (after-open r reg)) (sym e) (opening-leaves reg rs (opened-stores l reg rules rs e .1));
+  opened = λ {l} {reg} {mode} {rules} {rs} h.
+      let e = demand2 .opens l reg mode rules rs .1 h in
+      subst (λ r. Leaves reg mode 0 rs (after-open r reg mode)) (sym e) (opening-leaves reg mode rs (opened-stores l reg mode rules rs e .1));
   said = λ {l} {reg} {day} {st} h.
-      subst (λ r. Leaves reg day (h .content .records ++ say-entry st) (after-say r reg day st)) (sym (demand2 .says l reg day st true .1 h))
+      subst (λ r. Leaves reg (h .content .mode) day (h .content .records ++ say-entry st) (after-say r reg day st)) (sym (demand2 .says l reg day st true .1 h))
       (adds-leave day (say-entry st) (h .unbroken) (say-shaped st (h .stated .term .some-word)) (room-of (h .adds)));
   said-again = λ {l} {reg} {day} {st} h.
-      subst (λ r. Leaves reg day (h .content .records) (after-say r reg day st)) (sym (demand2 .says l reg day st false .1 h)) (day-leaves day (h .unbroken));
+      subst (λ r. Leaves reg (h .content .mode) day (h .content .records) (after-say r reg day st)) (sym (demand2 .says l reg day st false .1 h))
+      (day-leaves day (h .unbroken));
   granted = λ {l} {reg} {k} h.
-      subst (λ r. Leaves reg (k .day) (h .proof .content .records ++ entry k) (after-request r reg k)) (sym (demand2 .grants l reg k .1 h))
+      subst (λ r. Leaves reg (h .proof .content .mode) (k .day) (h .proof .content .records ++ entry k) (after-request r reg k))
+      (sym (demand2 .grants l reg k .1 h))
       (adds-leave (k .day) (entry k) (h .proof .unbroken) (entry-shaped k (h .proof .passes .term .some-word)) (h .room));
   batched = batch-leaving;
+  opened-marks = λ {l} {reg} {mode} {rules} {rs} list h.
+      let e = ap (λ r. marks-after-open r list) (demand2 .opens l reg mode rules rs .1 h) in
+      (λ ms m. cleared-none list ms (subst (λ x. MarkList x ms) e m), ap (drop 1) e ∙ cleared-behind list);
+  opened-list = λ {l} {reg} {mode} {rules} {rs} list h size.
+      subst (λ x. MarkList x []) (sym (ap (λ r. marks-after-open r list) (demand2 .opens l reg mode rules rs .1 h))) (cleared-marks list size);
+  marked = λ {reg} {list} {n} {after} h.
+      subst (λ r. LeavesMarks list after (after-mark r list)) (sym (demand2 .marks reg list n after .1 h)) (marked-leaves h);
+  returned = λ {reg} {list} {n} {r} h.
+      subst (λ x. Restores reg (h .content) (r .spot) (after-return x reg) × LeavesMarks list (r .marks) (marks-after-return x list))
+      (sym (demand2 .returns reg list n r .1 h)) (returned-leaves h);
+  returned-whole = returned-whole;
 }

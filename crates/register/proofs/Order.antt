@@ -77,6 +77,7 @@ call-order = record {
   open-2 = refl;
   open-4 = refl;
   open-5 = refl;
+  open-5-mode = refl;
   open-rule-5 = refl;
   open-rule-5-lone = refl;
   open-rule-5-days = refl;

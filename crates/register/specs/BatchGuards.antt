@@ -73,10 +73,10 @@ second-records = 3 ∷ 15 ∷ 0 ∷ 7 ∷ 10 ∷ 15 ∷ encode using-receipt ++ 
 
 -- a register with the rule, the latest day 12 and some words free; the first item's entry takes 18, the second's 25
 abbrev pub ruled : (free : ℕ) → List ℕ
-ruled free = 11 ∷ 1 ∷ 12 ∷ rule-record ++ replicate free 0
+ruled free = 12 ∷ 1 ∷ 12 ∷ 1 ∷ rule-record ++ replicate free 0
 
 abbrev pub with-both : List ℕ
-with-both = 54 ∷ 5 ∷ 15 ∷ rule-record ++ first-records ++ second-records
+with-both = 55 ∷ 5 ∷ 15 ∷ 1 ∷ rule-record ++ first-records ++ second-records
 
 -- what a batch of day 15 answers on such a register, and what it leaves
 abbrev pub answer-to-batch : (free : ℕ) → List ℕ → Batched
@@ -95,13 +95,13 @@ abbrev pub two-rules : List ℕ
 two-rules = rule-record ++ (1 ∷ 6 ∷ 0 ∷ 10 ∷ 20 ∷ encode consent)
 
 abbrev pub two-ruled : List ℕ
-two-ruled = 19 ∷ 2 ∷ 12 ∷ two-rules ++ replicate 36 0
+two-ruled = 20 ∷ 2 ∷ 12 ∷ 1 ∷ two-rules ++ replicate 36 0
 
 abbrev pub two-items : List ℕ
 two-items = plain-item 9 ++ (1 ∷ 7 ∷ 9 ∷ 4 ∷ encode (sign 0 consent))
 
 abbrev pub with-two : List ℕ
-with-two = 55 ∷ 6 ∷ 15 ∷ two-rules ++ first-records ++ (3 ∷ 8 ∷ 1 ∷ 7 ∷ 9 ∷ 15 ∷ encode (sign 0 consent)) ++
+with-two = 56 ∷ 6 ∷ 15 ∷ 1 ∷ two-rules ++ first-records ++ (3 ∷ 8 ∷ 1 ∷ 7 ∷ 9 ∷ 15 ∷ encode (sign 0 consent)) ++
     (4 ∷ 6 ∷ 0 ∷ encode (App (App (Const 3) (Text 7)) (Text 9)))
 
 -- ---- signature lists that are refused
@@ -138,7 +138,7 @@ abbrev pub rule-of-desk : Record
 rule-of-desk = record-with 1 (0 ∷ 10 ∷ 20 ∷ encode permitted)
 
 abbrev pub ruled-content : Content
-ruled-content = record { latest = 12; records = rule-of-desk ∷ [] }
+ruled-content = record { mode = 1; latest = 12; records = rule-of-desk ∷ [] }
 
 abbrev pub entered : List Record
 entered = record-with 3 (0 ∷ 7 ∷ 9 ∷ 15 ∷ encode desk-permits) ∷ record-with 4 (0 ∷ encode receipt-proved) ∷
@@ -204,7 +204,7 @@ pub record BatchGuards : Type 0 where
   pub first-4 : batch-call (with-lent 12288 second-bad 0) empty-register 4 both-items ≡ refused-at 0 4 4
   -- "and then succeeds and changes no word": its day is not set, and no word has to be free
   pub none : batch-call lends empty-register 6 [] ≡ all-granted
-  pub none-left : batch-leaves lends empty-register 6 [] ≡ 3 ∷ 0 ∷ 5 ∷ []
+  pub none-left : batch-leaves lends empty-register 6 [] ≡ 4 ∷ 0 ∷ 5 ∷ 1 ∷ []
   -- "The refusal is that of the first request that fails, with its index and its own place": its third has the number
   -- that is tested first
   pub first-that-fails : answer-to-batch 99 (plain-item 8 ++ using-later ++ (1 ∷ 7 ∷ 9 ∷ 0 ∷ [])) ≡ refused-at 1 14 6
@@ -214,24 +214,24 @@ pub record BatchGuards : Type 0 where
   pub seventeen-left : left-by-batch 306 (times 17 (plain-item 9)) ≡ ruled 306
   pub seventeenth-cut : batch-call (with-lent 12287 constant-of-none 0) short-register 4 (times 16 empty-proof ++ (0 ∷ [])) ≡ refused-at 0 5 0
   pub sixteenth-cut : answer-to-batch 288 (times 15 (plain-item 9) ++ (0 ∷ [])) ≡ refused-at 15 7 0
-  -- "Batches join the lists that histories are made of": the worked register has 118 words in use then, and 117 give 16
-  pub worked : answers setting (opened-sample 118) (say-consent ∷ worked-batch ∷ []) ≡ said (ok true) ∷ batched all-granted ∷ []
-  pub worked-used : used (run setting (opened-sample 118) (say-consent ∷ worked-batch ∷ [])) ≡ 118
-  pub worked-short : answers setting (opened-sample 117) (say-consent ∷ worked-batch ∷ []) ≡ said (ok true) ∷ batched (refused-at 1 16 0) ∷ []
+  -- "Batches join the lists that histories are made of": the worked register has 119 words in use then, and 118 give 16
+  pub worked : answers setting (opened-sample 119) (say-consent ∷ worked-batch ∷ []) ≡ said (ok true) ∷ batched all-granted ∷ []
+  pub worked-used : used (run setting (opened-sample 119) (say-consent ∷ worked-batch ∷ [])) ≡ 119
+  pub worked-short : answers setting (opened-sample 118) (say-consent ∷ worked-batch ∷ []) ≡ said (ok true) ∷ batched (refused-at 1 16 0) ∷ []
   -- "a refused one as a single refused call": the request behind it is granted where no word more has room
-  pub refused-between : answers setting (opened-sample 70) (say-consent ∷ worked-batch ∷ request-extract ∷ []) ≡
+  pub refused-between : answers setting (opened-sample 71) (say-consent ∷ worked-batch ∷ request-extract ∷ []) ≡
       said (ok true) ∷ batched (refused-at 1 16 0) ∷ requested (ok tt) ∷ []
   -- and it has no grants, days, words or records
   pub refused-grants : grants setting (ruled 42) (batch-both ∷ []) ≡ []
   pub refused-words : added-words setting (ruled 42) (batch-both ∷ []) ≡ 0
-  pub refused-read-off : read-off setting 53 ruled-content (batch-both ∷ []) ≡ ruled-content
+  pub refused-read-off : read-off setting 54 ruled-content (batch-both ∷ []) ≡ ruled-content
   pub refused-singles : singles setting (ruled 42) (batch-both ∷ []) ≡ []
-  pub refused-days : days setting (opened-sample 70) (say-consent ∷ worked-batch ∷ request-extract ∷ []) ≡ 15 ∷ 15 ∷ []
+  pub refused-days : days setting (opened-sample 71) (say-consent ∷ worked-batch ∷ request-extract ∷ []) ≡ 15 ∷ 15 ∷ []
   -- "each that succeeds counting as its requests in turn": in the grants, the days, the words added, the records
   pub both-grants : grants setting (ruled 43) (batch-both ∷ []) ≡ ask-of 0 7 9 15 (encode desk-permits) ∷ ask-of 0 7 10 15 (encode using-receipt) ∷ []
   pub both-days : days setting (ruled 43) (batch-both ∷ []) ≡ 15 ∷ 15 ∷ []
   pub both-words : added-words setting (ruled 43) (batch-both ∷ []) ≡ 43
-  pub both-read-off : read-off setting 54 ruled-content (batch-both ∷ []) ≡ record { latest = 15; records = rule-of-desk ∷ entered }
+  pub both-read-off : read-off setting 55 ruled-content (batch-both ∷ []) ≡ record { mode = 1; latest = 15; records = rule-of-desk ∷ entered }
   -- and as the list that it is replaced by
   pub both-singles : singles setting (ruled 43) (batch-both ∷ []) ≡ first-request ∷ second-request ∷ []
   pub both-not-singles : NoBatch (batch-both ∷ []) → ⊥
@@ -239,5 +239,5 @@ pub record BatchGuards : Type 0 where
   -- an empty one has no request, and sets no day
   pub none-between : answers setting (ruled 43) (first-request ∷ batch 12288 16 [] ∷ second-request ∷ []) ≡
       requested (ok tt) ∷ batched all-granted ∷ requested (ok tt) ∷ []
-  pub none-read-off : read-off setting 54 ruled-content (batch 12288 16 [] ∷ []) ≡ ruled-content
+  pub none-read-off : read-off setting 55 ruled-content (batch 12288 16 [] ∷ []) ≡ ruled-content
   pub none-days : days setting (ruled 43) (first-request ∷ batch 12288 16 [] ∷ []) ≡ 15 ∷ []

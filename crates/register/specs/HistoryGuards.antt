@@ -4,7 +4,7 @@
 -- they are met by registers and calls that are written out. proofs/HistoryGuards computes them.
 use Prim.Native.Nat.{ℕ}
 use mathlib.Core.Path.{_≡_}
-use mathlib.Core.Bool.{true, false}
+use mathlib.Core.Bool.{true}
 use mathlib.Core.List.{List, [], _∷_, _++_}
 use lib.ListN.{replicate}
 use Rattle.logic.specs.Result.{ok, refused}
@@ -35,12 +35,12 @@ two-says-turned = say-from 15 4 12 18 ∷ say-from 15 3 12 18 ∷ []
 
 -- a register in which the principal a says App C2 s7 for the days 1 to 4, with the latest day 5
 abbrev pub consent-by : (a : ℕ) → List ℕ
-consent-by a = 11 ∷ 1 ∷ 5 ∷ 2 ∷ 6 ∷ a ∷ 1 ∷ 4 ∷ encode consent
+consent-by a = 12 ∷ 1 ∷ 5 ∷ 0 ∷ 2 ∷ 6 ∷ a ∷ 1 ∷ 4 ∷ encode consent
 
 -- the desk states the permission of operation 0 for the extract 7, for the days 1 to 9; behind that stand so many words
 -- 8, and 77
 abbrev pub permitting : (free : ℕ) → List ℕ
-permitting free = 11 ∷ 1 ∷ 5 ∷ 1 ∷ 6 ∷ 0 ∷ 1 ∷ 9 ∷ encode permitted ++ replicate free 8 ++ (77 ∷ [])
+permitting free = 12 ∷ 1 ∷ 5 ∷ 0 ∷ 1 ∷ 6 ∷ 0 ∷ 1 ∷ 9 ∷ encode permitted ++ replicate free 8 ++ (77 ∷ [])
 
 abbrev pub consent-for : (first last : ℕ) → Statement
 consent-for first last = statement-of 3 first last (encode consent)
@@ -48,10 +48,10 @@ consent-for first last = statement-of 3 first last (encode consent)
 abbrev pub desk-asks : Ask
 desk-asks = ask-of 0 7 9 6 (encode desk-permits)
 
--- what an opening without rules leaves of a register, a say by a3 of App C2 s7 on day 15, and a request of day 6 with
--- the desk's statement for its proof
+-- what an opening for trial, without rules, leaves of a register, a say by a3 of App C2 s7 on day 15, and a request of
+-- day 6 with the desk's statement for its proof
 abbrev pub opened-over : List ℕ → List ℕ
-opened-over old = after-open (open-call (lent setting 12288) old []) old
+opened-over old = after-open (open-call (lent setting 12288) old 1 []) old 1
 
 abbrev pub said-over : (first last : ℕ) → List ℕ → List ℕ
 said-over first last old = after-say (say-call (lent setting 12288) old 15 (consent-for first last)) old 15 (consent-for first last)
@@ -68,22 +68,23 @@ abbrev pub both-consents : Term
 both-consents = Bind (sign 3 consent) (sign 3 other-consent)
 
 abbrev pub consents : List ℕ
-consents = 19 ∷ 2 ∷ 5 ∷ 2 ∷ 6 ∷ 3 ∷ 1 ∷ 9 ∷ encode consent ++ (2 ∷ 6 ∷ 3 ∷ 1 ∷ 4 ∷ encode other-consent)
+consents = 20 ∷ 2 ∷ 5 ∷ 0 ∷ 2 ∷ 6 ∷ 3 ∷ 1 ∷ 9 ∷ encode consent ++ (2 ∷ 6 ∷ 3 ∷ 1 ∷ 4 ∷ encode other-consent)
 
 abbrev pub consents-content : Content
 consents-content = record {
+  mode = 0;
   latest = 5;
   records = record { kind = 2; body = 3 ∷ 1 ∷ 9 ∷ encode consent } ∷ record { kind = 2; body = 3 ∷ 1 ∷ 4 ∷ encode other-consent } ∷ [];
 }
 
 pub record HistoryGuards : Type 0 where
   -- "words past the new used count are unchanged", by an opening, a say, a repeated say and a request
-  pub open-behind : opened-over (9 ∷ 9 ∷ 9 ∷ 9 ∷ 77 ∷ []) ≡ 3 ∷ 0 ∷ 0 ∷ 9 ∷ 77 ∷ []
+  pub open-behind : opened-over (9 ∷ 9 ∷ 9 ∷ 9 ∷ 9 ∷ 77 ∷ []) ≡ 4 ∷ 0 ∷ 0 ∷ 1 ∷ 9 ∷ 77 ∷ []
   pub say-behind : said-over 12 18 (permitting 9) ≡
-      19 ∷ 2 ∷ 15 ∷ 1 ∷ 6 ∷ 0 ∷ 1 ∷ 9 ∷ encode permitted ++ (2 ∷ 6 ∷ 3 ∷ 12 ∷ 18 ∷ encode consent) ++ (8 ∷ 77 ∷ [])
-  pub repeated-behind : said-over 1 4 (consent-by 3 ++ (8 ∷ 77 ∷ [])) ≡ 11 ∷ 1 ∷ 15 ∷ 2 ∷ 6 ∷ 3 ∷ 1 ∷ 4 ∷ encode consent ++ (8 ∷ 77 ∷ [])
+      20 ∷ 2 ∷ 15 ∷ 0 ∷ 1 ∷ 6 ∷ 0 ∷ 1 ∷ 9 ∷ encode permitted ++ (2 ∷ 6 ∷ 3 ∷ 12 ∷ 18 ∷ encode consent) ++ (8 ∷ 77 ∷ [])
+  pub repeated-behind : said-over 1 4 (consent-by 3 ++ (8 ∷ 77 ∷ [])) ≡ 12 ∷ 1 ∷ 15 ∷ 0 ∷ 2 ∷ 6 ∷ 3 ∷ 1 ∷ 4 ∷ encode consent ++ (8 ∷ 77 ∷ [])
   pub request-behind : granted-over (permitting 19) ≡
-      29 ∷ 3 ∷ 6 ∷ 1 ∷ 6 ∷ 0 ∷ 1 ∷ 9 ∷ encode permitted ++ (3 ∷ 8 ∷ 0 ∷ 7 ∷ 9 ∷ 6 ∷ encode desk-permits) ++
+      30 ∷ 3 ∷ 6 ∷ 0 ∷ 1 ∷ 6 ∷ 0 ∷ 1 ∷ 9 ∷ encode permitted ++ (3 ∷ 8 ∷ 0 ∷ 7 ∷ 9 ∷ 6 ∷ encode desk-permits) ++
       (4 ∷ 6 ∷ 0 ∷ encode receipt-proved) ++ (8 ∷ 77 ∷ [])
   -- "every call getting the register as the one before left it": the check behind the say finds it, and the one before
   -- it does not
@@ -96,7 +97,7 @@ pub record HistoryGuards : Type 0 where
       said (refused 5 0) ∷ said (ok true) ∷ requested (refused 23 0) ∷ []
   -- "if neither order has a refusal": a list of every kind of call that succeeds, a repeated say and an empty batch among
   -- them; two orders that have none; and two lists that have one, the first call's and the last's
-  pub no-refusal-of-all : NoRefusal setting (opened-sample 159) (say-consent ∷ say-consent ∷ request-extract ∷ worked-batch ∷ batch 12288 15 [] ∷ [])
+  pub no-refusal-of-all : NoRefusal setting (opened-sample 160) (say-consent ∷ say-consent ∷ request-extract ∷ worked-batch ∷ batch 12288 15 [] ∷ [])
   pub no-refusal : NoRefusal setting (opened-sample 90) two-says
   pub no-refusal-turned : NoRefusal setting (opened-sample 90) two-says-turned
   pub first-refused : NoRefusal setting (opened-sample 90) (request-extract ∷ say-consent ∷ []) → ⊥
@@ -110,7 +111,7 @@ pub record HistoryGuards : Type 0 where
   pub alike-check : Alike (SameSigns 3 (encode P)) (consent-by 3) (consent-by 4)
   pub alike-request : Alike (SameDay 6 (encode P)) (consent-by 3) (consent-by 4)
   pub alike-batch : Alike (SameForAll (ask-of 0 7 9 6 (encode P) ∷ [])) (consent-by 3) (consent-by 4)
-  pub alike-broken : Alike (SameSigns 3 (encode (sign 3 consent))) (9 ∷ 0 ∷ 5 ∷ []) (9 ∷ 1 ∷ 6 ∷ [])
+  pub alike-broken : Alike (SameSigns 3 (encode (sign 3 consent))) (9 ∷ 0 ∷ 5 ∷ 0 ∷ []) (9 ∷ 1 ∷ 6 ∷ 0 ∷ [])
   pub alike-say : Alike (SameStatement 6 (statement-of 5 1 4 (encode P))) (consent-by 3) (consent-by 4)
   -- "the first Sign with either decides": on day 6 the first is held, and the second is not
   pub held-before : HeldBefore (lent setting 12288) consents 6 (encode both-consents) 3 other-consent 5 consents-content

@@ -24,23 +24,23 @@ lends = with-lent 12288 (listed sample) 1
 abbrev pub constant-of-none : List ℕ
 constant-of-none = 0 ∷ []
 
--- a register of two words, one too few; one with a used count past its end; one of three words, with no records and the
--- latest day 5
+-- a register of three words, one too few; one with a used count past its end; one of four words, with no records and
+-- the latest day 5, for trial
 abbrev pub short-register : List ℕ
-short-register = 3 ∷ 0 ∷ []
+short-register = 4 ∷ 0 ∷ 5 ∷ []
 
 abbrev pub broken-register : List ℕ
-broken-register = 9 ∷ 0 ∷ 5 ∷ []
+broken-register = 9 ∷ 0 ∷ 5 ∷ 1 ∷ []
 
 abbrev pub empty-register : List ℕ
-empty-register = 3 ∷ 0 ∷ 5 ∷ []
+empty-register = 4 ∷ 0 ∷ 5 ∷ 1 ∷ []
 
 -- two with a statement for the days 1 to 4: a3 says App C2 s7, and the rule r
 abbrev pub consent-register : List ℕ
-consent-register = 11 ∷ 1 ∷ 5 ∷ 2 ∷ 6 ∷ 3 ∷ 1 ∷ 4 ∷ encode consent
+consent-register = 12 ∷ 1 ∷ 5 ∷ 0 ∷ 2 ∷ 6 ∷ 3 ∷ 1 ∷ 4 ∷ encode consent
 
 abbrev pub rule-register : List ℕ
-rule-register = 21 ∷ 1 ∷ 5 ∷ 1 ∷ 16 ∷ 0 ∷ 1 ∷ 4 ∷ encode rule
+rule-register = 22 ∷ 1 ∷ 5 ∷ 0 ∷ 1 ∷ 16 ∷ 0 ∷ 1 ∷ 4 ∷ encode rule
 
 -- a proposition in which Sign3 App C2 s7 stands at word 14
 abbrev pub embeds : Term
@@ -138,29 +138,30 @@ pub record CallOrder : Type 0 where
   pub say-14 : say-call lends empty-register 5 (statement-of 4 1 4 (encode embeds)) ≡ refused 14 14
   pub say-22 : say-call lends consent-register 5 (statement-of 4 1 4 (encode embeds)) ≡ refused 22 14
   pub say-16 : say-call lends empty-register 5 (statement-of 3 1 4 (encode consent)) ≡ refused 16 0
-  -- open: no 3; then rules in turn, each at its principal word; 16 last
-  pub open-1 : open-call (with-lent 12287 constant-of-none 0) short-register (16777216 ∷ []) ≡ refused 1 0
-  pub open-2 : open-call (with-lent 12288 constant-of-none 0) short-register (16777216 ∷ []) ≡ refused 2 0
-  pub open-4 : open-call (with-lent 12288 constant-of-none 0) broken-register (16777216 ∷ []) ≡ refused 4 0
-  pub open-5 : open-call (with-lent 12288 (listed sample) 0) broken-register (listed-rule 0 rule ++ (16777216 ∷ [])) ≡ refused 5 0
-  pub open-rule-5 : open-call lends broken-register (listed-rule 0 rule ++ (16777216 ∷ 1 ∷ 4 ∷ 0 ∷ [])) ≡ refused 5 17
-  pub open-rule-5-lone : open-call lends broken-register (listed-rule 0 rule ++ (16777216 ∷ [])) ≡ refused 5 17
-  pub open-rule-5-days : open-call lends broken-register (listed-rule 0 rule ++ (0 ∷ 4 ∷ 1 ∷ 0 ∷ [])) ≡ refused 5 17
-  pub open-rule-5-cut : open-call lends broken-register (listed-rule 0 rule ++ (0 ∷ 4 ∷ 1 ∷ [])) ≡ refused 5 17
-  pub open-rule-6 : open-call lends broken-register (listed-rule 0 rule ++ (0 ∷ 1 ∷ 4 ∷ 0 ∷ [])) ≡ refused 6 17
-  pub open-rule-6-long : open-call lends broken-register (listed-rule 0 rule ++ (0 ∷ 1 ∷ 4 ∷ 2048 ∷ [])) ≡ refused 6 17
-  pub open-rule-7 : open-call lends broken-register (listed-rule 0 rule ++ (0 ∷ [])) ≡ refused 7 17
-  pub open-rule-7-day : open-call lends broken-register (listed-rule 0 rule ++ (0 ∷ 4 ∷ [])) ≡ refused 7 17
-  pub open-rule-7-days : open-call lends broken-register (listed-rule 0 rule ++ (0 ∷ 1 ∷ 4 ∷ [])) ≡ refused 7 17
-  pub open-rule-7-cut : open-call lends broken-register (listed-rule 0 rule ++ (0 ∷ 1 ∷ 4 ∷ 2047 ∷ [])) ≡ refused 7 17
-  pub open-rule-9 : open-call lends broken-register (listed-rule 0 rule ++ listed-rule 0 (sign 3 (var 0))) ≡ refused 9 17
-  pub open-rule-18 : open-call lends broken-register (listed-rule 0 rule ++ listed-rule 0 bad-function) ≡ refused 18 17
-  pub open-rule-19 : open-call lends broken-register (listed-rule 0 rule ++ listed-rule 0 bad-argument) ≡ refused 19 17
-  pub open-rule-20 : open-call lends broken-register (listed-rule 0 rule ++ listed-rule 0 escape) ≡ refused 20 17
-  pub open-rule-14 : open-call lends broken-register (listed-rule 0 rule ++ listed-rule 4 embeds ++ (16777216 ∷ [])) ≡ refused 14 17
-  pub open-16 : open-call lends broken-register (listed-rule 0 rule) ≡ refused 16 0
+  -- open: no 3; its mode is neither 0 nor 1; then rules in turn, each at its principal word; 16 last
+  pub open-1 : open-call (with-lent 12287 constant-of-none 0) short-register 2 (16777216 ∷ []) ≡ refused 1 0
+  pub open-2 : open-call (with-lent 12288 constant-of-none 0) short-register 2 (16777216 ∷ []) ≡ refused 2 0
+  pub open-4 : open-call (with-lent 12288 constant-of-none 0) broken-register 2 (16777216 ∷ []) ≡ refused 4 0
+  pub open-5 : open-call (with-lent 12288 (listed sample) 0) broken-register 1 (listed-rule 0 rule ++ (16777216 ∷ [])) ≡ refused 5 0
+  pub open-5-mode : open-call lends broken-register 2 (listed-rule 0 rule ++ (16777216 ∷ [])) ≡ refused 5 0
+  pub open-rule-5 : open-call lends broken-register 1 (listed-rule 0 rule ++ (16777216 ∷ 1 ∷ 4 ∷ 0 ∷ [])) ≡ refused 5 17
+  pub open-rule-5-lone : open-call lends broken-register 1 (listed-rule 0 rule ++ (16777216 ∷ [])) ≡ refused 5 17
+  pub open-rule-5-days : open-call lends broken-register 1 (listed-rule 0 rule ++ (0 ∷ 4 ∷ 1 ∷ 0 ∷ [])) ≡ refused 5 17
+  pub open-rule-5-cut : open-call lends broken-register 1 (listed-rule 0 rule ++ (0 ∷ 4 ∷ 1 ∷ [])) ≡ refused 5 17
+  pub open-rule-6 : open-call lends broken-register 1 (listed-rule 0 rule ++ (0 ∷ 1 ∷ 4 ∷ 0 ∷ [])) ≡ refused 6 17
+  pub open-rule-6-long : open-call lends broken-register 1 (listed-rule 0 rule ++ (0 ∷ 1 ∷ 4 ∷ 2048 ∷ [])) ≡ refused 6 17
+  pub open-rule-7 : open-call lends broken-register 1 (listed-rule 0 rule ++ (0 ∷ [])) ≡ refused 7 17
+  pub open-rule-7-day : open-call lends broken-register 1 (listed-rule 0 rule ++ (0 ∷ 4 ∷ [])) ≡ refused 7 17
+  pub open-rule-7-days : open-call lends broken-register 1 (listed-rule 0 rule ++ (0 ∷ 1 ∷ 4 ∷ [])) ≡ refused 7 17
+  pub open-rule-7-cut : open-call lends broken-register 1 (listed-rule 0 rule ++ (0 ∷ 1 ∷ 4 ∷ 2047 ∷ [])) ≡ refused 7 17
+  pub open-rule-9 : open-call lends broken-register 1 (listed-rule 0 rule ++ listed-rule 0 (sign 3 (var 0))) ≡ refused 9 17
+  pub open-rule-18 : open-call lends broken-register 1 (listed-rule 0 rule ++ listed-rule 0 bad-function) ≡ refused 18 17
+  pub open-rule-19 : open-call lends broken-register 1 (listed-rule 0 rule ++ listed-rule 0 bad-argument) ≡ refused 19 17
+  pub open-rule-20 : open-call lends broken-register 1 (listed-rule 0 rule ++ listed-rule 0 escape) ≡ refused 20 17
+  pub open-rule-14 : open-call lends broken-register 1 (listed-rule 0 rule ++ listed-rule 4 embeds ++ (16777216 ∷ [])) ≡ refused 14 17
+  pub open-16 : open-call lends broken-register 1 (listed-rule 0 rule) ≡ refused 16 0
   -- "any earlier rule serves there": one for day 9 alone passes 14
-  pub open-any-days : open-call lends broken-register (3 ∷ 9 ∷ 9 ∷ 3 ∷ encode consent ++ listed-rule 4 embeds) ≡ refused 16 0
+  pub open-any-days : open-call lends broken-register 1 (3 ∷ 9 ∷ 9 ∷ 3 ∷ encode consent ++ listed-rule 4 embeds) ≡ refused 16 0
   -- read: 2, 3, 17
   pub read-2 : read-call short-register 0 ≡ refused 2 0
   pub read-3 : read-call broken-register 0 ≡ refused 3 0

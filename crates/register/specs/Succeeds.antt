@@ -15,10 +15,12 @@ use Rattle.logic.specs.Result.{ok}
 use Rattle.logic.specs.Reading.{Embedded}
 use Rattle.logic.specs.Check.{Passes, Stated}
 use Rattle.logic.specs.SignatureList.{Lists, permit, receipt-of}
-use Rattle.register.specs.Records.{Record, Statement, Ask, Content, whole, header, Unbroken, used, used-by, words-of, Held, States, statement, rule-kind}
-use Rattle.register.specs.Records.{next-rule, appended}
+use Rattle.register.specs.Records.{Record, Statement, Ask, Content, whole, header, RegisterMode, Unbroken, used, used-by, words-of, Held}
+use Rattle.register.specs.Records.{States, statement, rule-kind}
+use Rattle.register.specs.Records.{next-rule, appended, trial}
 use Rattle.register.specs.Calls.{Lent, permission, say-entry, entry, check-call, say-call, request-call, open-call}
 use Rattle.register.specs.Batch.{most-items, ItemsOf, all-granted, batch-call}
+use Rattle.register.specs.Marks.{Mark, mark-of, MarkList, Others, StandsFirst, Ends, spot-at-end, Returned, mark-call, return-call}
 
 -- what every call but read needs of what it is lent; Σ are the
 -- constants' types, and then a signature in the sense of Scope
@@ -112,12 +114,40 @@ pub data Opens (Σ : List Term) : List Record → List ℕ → List Record → T
   repeated-rule : {rs rs′ : List Record} {st : Statement} {ws rest : List ℕ} {t : Term} → next-rule ws ≡ whole st rest → Ruled Σ rs st t →
       States rs st → Opens Σ rs rest rs′ → Opens Σ rs ws rs′
 
--- an open succeeds with the records rs
-pub record Openable (l : Lent) (reg rules : List ℕ) (rs : List Record) : Type 0 where
+-- an open of a register of the mode succeeds with the records rs
+pub record Openable (l : Lent) (reg : List ℕ) (mode : ℕ) (rules : List ℕ) (rs : List Record) : Type 0 where
   pub Σ : List Term
   pub ready : Ready l (length reg) Σ
+  pub known-mode : RegisterMode mode
   pub opens : Opens Σ [] rules rs
   pub room : used-by rs ≤ length reg
+
+-- a register of the mode with the content c, of a length that is in range
+pub record OfMode (mode : ℕ) (reg : List ℕ) (c : Content) : Type 0 where
+  pub not-shorter : header ≤ length reg
+  pub not-longer : length reg ≤ most-register
+  pub unbroken : Unbroken reg c
+  pub of-mode : c .mode ≡ mode
+
+-- a mark is set at the end of a trial register's records, as no ninth: `after` stand then
+pub record Markable (reg list : List ℕ) (n : ℕ) (after : List Mark) : Type 0 where
+  pub content : Content
+  pub on-trial : OfMode trial reg content
+  pub ms : List Mark
+  pub listed : MarkList list ms
+  pub rest : List Mark
+  pub others : Others n ms rest
+  pub no-ninth : length rest < 8
+  pub set : after ≡ rest ++ (mark-of n (spot-at-end content) ∷ [])
+
+-- a return finds the mark, and it is at an end
+pub record Returnable (reg list : List ℕ) (n : ℕ) (r : Returned) : Type 0 where
+  pub content : Content
+  pub on-trial : OfMode trial reg content
+  pub ms : List Mark
+  pub listed : MarkList list ms
+  pub stands : StandsFirst n (r .spot) ms (r .marks)
+  pub ends : Ends (content .records) (r .spot)
 
 -- the second demand
 pub record Demand2 : Type 0 where
@@ -126,7 +156,10 @@ pub record Demand2 : Type 0 where
   pub batches : (l : Lent) (reg : List ℕ) (day : ℕ) (ws : List ℕ) (xs : List (Option Ask)) → ItemsOf day ws xs →
       (batch-call l reg day ws ≡ all-granted) ↔ Batchable l reg day xs
   pub says : (l : Lent) (reg : List ℕ) (day : ℕ) (st : Statement) (added : Bool) → (say-call l reg day st ≡ ok added) ↔ Sayable l reg day st added
-  pub opens : (l : Lent) (reg rules : List ℕ) (rs : List Record) → (open-call l reg rules ≡ ok rs) ↔ Openable l reg rules rs
+  pub opens : (l : Lent) (reg : List ℕ) (mode : ℕ) (rules : List ℕ) (rs : List Record) →
+      (open-call l reg mode rules ≡ ok rs) ↔ Openable l reg mode rules rs
+  pub marks : (reg list : List ℕ) (n : ℕ) (after : List Mark) → (mark-call reg list n ≡ ok after) ↔ Markable reg list n after
+  pub returns : (reg list : List ℕ) (n : ℕ) (r : Returned) → (return-call reg list n ≡ ok r) ↔ Returnable reg list n r
   -- an accepted signature is a signature in the sense of Scope
   pub well-formed : {l : Lent} {len : ℕ} {Σ : List Term} → Ready l len Σ → Signature Σ
   -- a term has at most one type

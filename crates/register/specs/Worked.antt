@@ -9,6 +9,7 @@ use Rattle.logic.specs.Term.{Term, sign, Const, Text, Name, App, Says, size, en
 use Rattle.logic.specs.Worked.{sample, listed, consent, rule, p}
 use Rattle.logic.specs.SignatureList.{signature}
 use Rattle.register.specs.Records.{Record, Ask, Content, statement-of, ask-of, grant, receipt, used, count, latest, register-content, written}
+use Rattle.register.specs.Records.{release, trial}
 use Rattle.register.specs.Calls.{open-call, after-open, check-call}
 use Rattle.register.specs.History.{Setting, lent, Call, say, request, Reply, said, requested, run, answers}
 
@@ -19,9 +20,9 @@ setting = record { sig = listed sample; n = 1 }
 abbrev pub rule-for : (first last : ℕ) → List ℕ
 rule-for first last = 0 ∷ first ∷ last ∷ size rule ∷ encode rule
 
--- a register of zeros, opened with a rule list
+-- a register of zeros, opened for release with a rule list
 abbrev pub opened-with : (len : ℕ) → List ℕ → List ℕ
-opened-with len rules = after-open (open-call (lent setting 12288) (replicate len 0) rules) (replicate len 0)
+opened-with len rules = after-open (open-call (lent setting 12288) (replicate len 0) release rules) (replicate len 0) release
 
 -- opened with the rule r for the days 10 to 20
 abbrev pub opened-sample : ℕ → List ℕ
@@ -40,13 +41,13 @@ request-on day = request 12288 (ask-of 0 7 9 day (encode p))
 abbrev pub request-extract : Call
 request-extract = request-on 15
 
--- "Rule r, a3 says App C2 s7, request 0, 7, 9 with p"; "01's worked register uses 29, then 70, and 69 give 16"
+-- "Rule r, a3 says App C2 s7, request 0, 7, 9 with p"; "The worked counts become 30, 71 and 70"
 pub record WorkedRegister : Type 0 where
   pub accepted : signature (listed sample) ≡ ok sample
-  pub used-before : used (run setting (opened-sample 70) (say-consent ∷ [])) ≡ 29
-  pub used-after : used (run setting (opened-sample 70) (say-consent ∷ request-extract ∷ [])) ≡ 70
-  pub suffices : answers setting (opened-sample 70) (say-consent ∷ request-extract ∷ []) ≡ said (ok true) ∷ requested (ok tt) ∷ []
-  pub too-short : answers setting (opened-sample 69) (say-consent ∷ request-extract ∷ []) ≡ said (ok true) ∷ requested (refused 16 0) ∷ []
+  pub used-before : used (run setting (opened-sample 71) (say-consent ∷ [])) ≡ 30
+  pub used-after : used (run setting (opened-sample 71) (say-consent ∷ request-extract ∷ [])) ≡ 71
+  pub suffices : answers setting (opened-sample 71) (say-consent ∷ request-extract ∷ []) ≡ said (ok true) ∷ requested (ok tt) ∷ []
+  pub too-short : answers setting (opened-sample 70) (say-consent ∷ request-extract ∷ []) ≡ said (ok true) ∷ requested (refused 16 0) ∷ []
 
 -- what the receipt states, and that as a Sign
 abbrev pub receipt-proved : Term
@@ -61,14 +62,14 @@ after-consent c = answers setting (opened-sample 76) (say-consent ∷ c ∷ [])
 
 -- a check of the receipt as a Sign, after the request of day 15
 abbrev pub check-receipt : (day : ℕ) → Result Term
-check-receipt day = check-call (lent setting 12288) (run setting (opened-sample 70) (say-consent ∷ request-extract ∷ [])) day (encode receipt-sign)
+check-receipt day = check-call (lent setting 12288) (run setting (opened-sample 71) (say-consent ∷ request-extract ∷ [])) day (encode receipt-sign)
 
 -- a request of one word, on day 15, and a register with some records of it
 abbrev pub short-ask : Ask
 short-ask = ask-of 0 7 9 15 (0 ∷ [])
 
 abbrev pub content-with : List Record → Content
-content-with rs = record { latest = 15; records = rs }
+content-with rs = record { mode = trial; latest = 15; records = rs }
 
 abbrev pub read-again : List Record → Result Content
 read-again rs = register-content (written (replicate 40 0) (content-with rs))
@@ -86,12 +87,12 @@ pub record WorkedDays : Type 0 where
   pub before-first-day : answers setting (opened-sample 76) (say-from 10 3 12 18 ∷ request-on 11 ∷ []) ≡ said (ok true) ∷ requested (refused 22 23) ∷ []
   -- a repeated say adds nothing and sets the latest day; "The same statement with other days is another statement"
   pub repeated : after-consent (say-from 16 3 12 18) ≡ said (ok true) ∷ said (ok false) ∷ []
-  pub repeated-sets-day : latest (run setting (opened-sample 70) (say-consent ∷ say-from 16 3 12 18 ∷ [])) ≡ 16
+  pub repeated-sets-day : latest (run setting (opened-sample 71) (say-consent ∷ say-from 16 3 12 18 ∷ [])) ≡ 16
   pub other-days : after-consent (say-from 15 3 12 19) ≡ said (ok true) ∷ said (ok true) ∷ []
   pub repeated-rule : count (opened-with 76 (rule-for 10 20 ++ rule-for 10 20)) ≡ 1
   pub other-days-rule : count (opened-with 76 (rule-for 10 20 ++ rule-for 10 21)) ≡ 2
   -- the latest day is 0 at opening; a say for one day, which need not be its own, passes
-  pub opened-on : latest (opened-sample 70) ≡ 0
+  pub opened-on : latest (opened-sample 71) ≡ 0
   pub one-day : after-consent (say-from 15 4 30 30) ≡ said (ok true) ∷ said (ok true) ∷ []
   -- 5, then 23, then 15
   pub days-first : after-consent (say-from 14 0 19 12) ≡ said (ok true) ∷ said (refused 5 0) ∷ []

@@ -3,7 +3,7 @@ use Prim.Native.Nat.{ℕ, _≤_, _<_}
 use native.Mathlib.Omega.{arith}
 use mathlib.Core.Path.{_≡_, refl, sym, ap, subst, _∙_}
 use mathlib.Core.Bool.{Bool, true, false, _&&_}
-use mathlib.Core.List.{List, []}
+use mathlib.Core.List.{List}
 use lib.Dec.{leb}
 use lib.ListN.{length, take}
 use borrow.Author.Tests.{lt-ltb, le-ltb, le-leb, lt-leb, leb-true}
@@ -26,8 +26,8 @@ use Rattle.records.specs.declared.walk.Contents.the-variants.{Broken, Whole}
 use Rattle.records.proofs.Walks.{contents-broken, contents-whole}
 use Rattle.register.specs.Records.{Content, Statement, header, latest, register-content}
 use Rattle.register.proofs.Words.{unbroken-right}
-use Rattle.register.specs.Calls.{Lent, Outline, View, view, length-test, shared, outline-of, fresh-outline, new-content, statement-test}
-use Rattle.shared_tests.specs.Shared.{lengths-test, signed, ready-answer, SignedAs, constants-found, prepared}
+use Rattle.register.specs.Calls.{Lent, Outline, View, view, length-test, shared, outline-of, fresh-outline, statement-test}
+use Rattle.shared_tests.specs.Shared.{no-content, lengths-test, signed, ready-answer, SignedAs, constants-found, prepared}
 use Rattle.shared_tests.specs.Shared.{prepared-to-open, LentSo, PreparedAs, OpenedAs}
 use Rattle.shared_tests.specs.declared.Ready.{Ready}
 use Rattle.shared_tests.specs.declared.Ready.the-variants.{Constants, Refused as ReadyRefused}
@@ -197,16 +197,16 @@ module _ (l : Lent) (t : Outline) (c : Content) (table : List ℕ) (r : Ready) (
 module _ (l : Lent) (len : ℕ) (table : List ℕ) where
   pub opened-refused : (number : ℕ) → number ≡ number-of (lengths-test (l .workspace) len) → (number ≡ 0 → ⊥) → OpenedAs l len table (ReadyRefused number 0)
   opened-refused number e n =
-      let h = shared-refused l (fresh-outline len) ok (ok (new-content [])) (lengths-refused (l .workspace) len number e n) in
+      let h = shared-refused l (fresh-outline len) ok (ok no-content) (lengths-refused (l .workspace) len number e n) in
       record { answer = sym (stop _ h); passed = λ v f. absurd (not-ok (sym h ∙ f)) }
 
   pub opened-as : (r : Ready) → Lengths (l .workspace) len → SignedAs (l .sig) (l .n) table r → OpenedAs l len table r
   opened-as r L S =
-      let h = shared-signed l (fresh-outline len) ok (ok (new-content [])) (new-content []) (L .passed) refl in
+      let h = shared-signed l (fresh-outline len) ok (ok no-content) no-content (L .passed) refl in
       record {
-        answer = lent-answer l (fresh-outline len) (new-content []) table r L S (prepared-to-open l len) h;
+        answer = lent-answer l (fresh-outline len) no-content table r L S (prepared-to-open l len) h;
         passed =
-            lent-so l (fresh-outline len) (new-content []) table r L S (prepared-to-open l len) h;
+            lent-so l (fresh-outline len) no-content table r L S (prepared-to-open l len) h;
       }
 
 module _ (l : Lent) (reg table : List ℕ) where

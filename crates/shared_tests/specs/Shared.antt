@@ -10,7 +10,7 @@ use Rattle.logic.specs.Result.{Result, ok, refused, _>>=_, _>>_, require}
 use Rattle.logic.specs.Term.{Term}
 use Rattle.logic.specs.SignatureList.{signature, operations-test}
 use Rattle.typing.specs.Check.{ConstantsOf}
-use Rattle.register.specs.Records.{Content, header, register-content}
+use Rattle.register.specs.Records.{Content, header, release, register-content}
 use Rattle.register.specs.Calls.{Lent, Outline, View, view, length-test, shared, outline-of, fresh-outline, new-content, on-register}
 use Rattle.shared_tests.specs.declared.Ready.{Ready}
 use Rattle.shared_tests.specs.declared.Ready.the-variants.{Constants, Refused}
@@ -41,8 +41,12 @@ pub record SignedAs (sig : List ℕ) (n : ℕ) (table : List ℕ) (r : Ready) : 
 abbrev pub prepared : Lent → List ℕ → Result View
 prepared l reg = on-register l reg ok
 
+-- these look at no mode
+abbrev pub no-content : Content
+no-content = new-content release []
+
 abbrev pub prepared-to-open : Lent → (len : ℕ) → Result View
-prepared-to-open l len = shared l (fresh-outline len) (ok (new-content [])) ok
+prepared-to-open l len = shared l (fresh-outline len) (ok no-content) ok
 
 -- how many constants they find
 abbrev pub constants-found : Result View → Result ℕ
@@ -70,4 +74,4 @@ pub record PreparedAs (l : Lent) (reg table : List ℕ) (r : Ready) : Type 0 whe
 
 pub record OpenedAs (l : Lent) (len : ℕ) (table : List ℕ) (r : Ready) : Type 0 where
   pub answer : ready-answer r ≡ constants-found (prepared-to-open l len)
-  pub passed : (v : View) → prepared-to-open l len ≡ ok v → LentSo l (fresh-outline len) (new-content []) table v
+  pub passed : (v : View) → prepared-to-open l len ≡ ok v → LentSo l (fresh-outline len) no-content table v

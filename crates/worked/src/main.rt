@@ -44,6 +44,8 @@ use worked_lines::say_line_on;
 use worked_terms::names;
 use worked_terms::simplified;
 use worked_terms::uses;
+use worked_trials::released;
+use worked_trials::trials;
 
 // "Rule r, a3 says App C2 s7": how each register here begins.
 fn begin(register: &mut [u32]) {
@@ -65,9 +67,9 @@ fn read_back(register: &[u32]) {
     check_line(b"p", register, &p);
 }
 
-// "01's worked register uses 29, then 70".
-fn grant(register: &mut [u32; 70]) {
-    heading(b"A register of 70 words");
+// "The worked counts become 30, 71 and 70".
+fn grant(register: &mut [u32; 71]) {
+    heading(b"A register of 71 words");
     begin(register);
     let said = statement();
     say_line(b"a3 says it again", register, 3, &said);
@@ -78,9 +80,9 @@ fn grant(register: &mut [u32; 70]) {
     read_back(register);
 }
 
-// "and 69 give 16".
-fn full(register: &mut [u32; 69]) {
-    heading(b"A register of 69 words");
+// One word less gives 16.
+fn full(register: &mut [u32; 70]) {
+    heading(b"A register of 70 words");
     begin(register);
     let p = proof();
     request_line(b"request 0, 7, 9 with p", register, 0, 7, 9, &p);
@@ -113,8 +115,8 @@ fn lent_refusals(register: &[u32]) {
         &term,
         &mut short,
     );
-    let words = [3, 0];
-    check_line(b"2, a register of 2 words", &words, &term);
+    let words = [4, 0, 0];
+    check_line(b"2, a register of 3 words", &words, &term);
     let broken = [9, 0, 0, 0, 0, 0, 0, 0];
     check_line(b"3, 8 words with word 0 = 9", &broken, &term);
     let bad = [1, S];
@@ -158,9 +160,9 @@ fn separate_refusals(register: &[u32]) {
     check_line(b"11, the same said by a0", register, &another);
 }
 
-// The rows of the refusal table, in its order; beside 11 stand document 02's. The registers of 69 words and of 4
+// The rows of the refusal table, in its order; beside 11 stand document 02's. The registers of 70 words and of 4
 // records are those that the examples before left.
-fn refusals(register: &mut [u32; 64], short: &mut [u32; 69], granted: &[u32; 70]) {
+fn refusals(register: &mut [u32; 64], short: &mut [u32; 70], granted: &[u32; 71]) {
     heading(b"The refusal table, on a register of 64 words");
     begin(register);
     lent_refusals(register);
@@ -177,7 +179,7 @@ fn refusals(register: &mut [u32; 64], short: &mut [u32; 69], granted: &[u32; 70]
     check_line(b"14, Sign4 App C2 s7, never said", register, &never);
     check_line_on(b"22, Sign3 App C2 s7 on day 19", register, 19, &another);
     let p = proof();
-    request_line(b"16, p on 69 words", short, 0, 7, 9, &p);
+    request_line(b"16, p on 70 words", short, 0, 7, 9, &p);
     read_line(b"17, record 4 of 4", granted, 4);
     counts_line(register);
 }
@@ -238,8 +240,8 @@ fn check_days(register: &[u32]) {
 }
 
 // Document 02, slip 5: r holds from day 10 to day 20, what a3 says from day 12 to day 18.
-fn lapses(register: &mut [u32; 70]) {
-    heading(b"Statements that lapse, on a register of 70 words");
+fn lapses(register: &mut [u32; 71]) {
+    heading(b"Statements that lapse, on a register of 71 words");
     begin(register);
     late_requests(register);
     day_moves(register);
@@ -248,8 +250,8 @@ fn lapses(register: &mut [u32; 70]) {
 
 // Document 02, slip 7: a batch of two requests, the second with a proof that uses the receipt of the first; before it
 // the same in the other order.
-fn batches(register: &mut [u32; 118]) {
-    heading(b"Batches of two, on a register of 118 words");
+fn batches(register: &mut [u32; 119]) {
+    heading(b"Batches of two, on a register of 119 words");
     begin(register);
     let other = items_in_other_order();
     batch_line(b"the second first", register, &other);
@@ -261,8 +263,8 @@ fn batches(register: &mut [u32; 118]) {
 }
 
 // "The batch grants all or changes no word": there is room for the first of the two alone.
-fn short_batch(register: &mut [u32; 117]) {
-    heading(b"A batch of two, on a register of 117 words");
+fn short_batch(register: &mut [u32; 118]) {
+    heading(b"A batch of two, on a register of 118 words");
     begin(register);
     let items = items_in_turn();
     batch_line(b"two in turn", register, &items);
@@ -270,9 +272,9 @@ fn short_batch(register: &mut [u32; 117]) {
 }
 
 fn main() {
-    let mut granted = [0u32; 70];
+    let mut granted = [0u32; 71];
     grant(&mut granted);
-    let mut short = [0u32; 69];
+    let mut short = [0u32; 70];
     full(&mut short);
     let mut long = [0u32; 300];
     long_says(&mut long);
@@ -280,13 +282,16 @@ fn main() {
     refusals(&mut register, &mut short, &granted);
     let mut trust_register = [0u32; 64];
     trusts(&mut trust_register);
-    let mut dated = [0u32; 70];
+    let mut dated = [0u32; 71];
     lapses(&mut dated);
     names();
-    let mut both = [0u32; 118];
+    let mut both = [0u32; 119];
     batches(&mut both);
-    let mut one = [0u32; 117];
+    let mut one = [0u32; 118];
     short_batch(&mut one);
     uses();
     simplified(&granted);
+    let mut tried = [0u32; 71];
+    trials(&mut tried);
+    released(&mut granted);
 }

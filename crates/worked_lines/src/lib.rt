@@ -1,12 +1,22 @@
 // A call of the register and its line: what the example is, the call, and what it gives.
 use batch_tests::Batched;
 use logic::limit::LEAST_WORKSPACE;
+use mark_list::MARK_LIST;
+use mark_list::MOST_MARKS;
 use named::convert::Conversion;
 use named::convert::from_named;
 use named::convert::to_named;
 use records::format::COUNT;
 use records::format::HEADER;
 use records::format::LATEST;
+use records::format::MARK_COUNT;
+use records::format::MARK_LATEST;
+use records::format::MARK_LIST_HEAD;
+use records::format::MARK_NUMBER;
+use records::format::MARK_USED;
+use records::format::MARK_WORDS;
+use records::format::RELEASE;
+use records::format::STANDING;
 use records::format::USED;
 use sample::FROM;
 use sample::OPERATIONS;
@@ -60,11 +70,64 @@ fn print_verdict(example: &[u8], call: &[u8], verdict: Verdict) {
     io::write_all(1, b"\n");
 }
 
-pub fn open_line(example: &[u8], register: &mut [u32], rules: &[u32]) {
+// An opening in a mode, with the list of marks that is kept beside the register.
+pub fn open_line_as(
+    example: &[u8],
+    register: &mut [u32],
+    mode: u32,
+    marks: &mut [u32],
+    rules: &[u32],
+) {
     let sig = signature();
     let mut ws = [0u32; LEAST_WORKSPACE];
-    let verdict = open::open(&sig, OPERATIONS, register, rules, &mut ws);
+    let verdict = open::open(&sig, OPERATIONS, mode, register, marks, rules, &mut ws);
     print_verdict(example, b"open", verdict);
+}
+
+// For release, where no mark is ever set.
+pub fn open_line(example: &[u8], register: &mut [u32], rules: &[u32]) {
+    let mut marks = [0u32; MARK_LIST];
+    open_line_as(example, register, RELEASE, &mut marks, rules);
+}
+
+pub fn mark_line(example: &[u8], register: &[u32], marks: &mut [u32], number: u32) {
+    let verdict = marks::mark(register, marks, number);
+    print_verdict(example, b"mark", verdict);
+}
+
+pub fn return_line(example: &[u8], register: &mut [u32], marks: &mut [u32], number: u32) {
+    let verdict = marks::return_to(register, marks, number);
+    print_verdict(example, b"return", verdict);
+}
+
+// A mark that stands, and what it keeps.
+fn print_mark(marks: &[u32; MARK_LIST], i: usize) {
+    if MOST_MARKS <= i {
+        return;
+    }
+    let at = MARK_LIST_HEAD + MARK_WORDS * i;
+    io::write_all(1, b", mark");
+    print_number(marks[at + MARK_NUMBER]);
+    io::write_all(1, b" used");
+    print_number(marks[at + MARK_USED]);
+    io::write_all(1, b" records");
+    print_number(marks[at + MARK_COUNT]);
+    io::write_all(1, b" day");
+    print_number(marks[at + MARK_LATEST]);
+}
+
+// How many marks stand, and the first two of them.
+pub fn marks_line(marks: &[u32; MARK_LIST]) {
+    let standing = marks[STANDING];
+    io::write_all(1, b"standing");
+    print_number(standing);
+    if 0 < standing {
+        print_mark(marks, 0);
+    }
+    if 1 < standing {
+        print_mark(marks, 1);
+    }
+    io::write_all(1, b"\n");
 }
 
 // A say for the days of the sample, on a day.

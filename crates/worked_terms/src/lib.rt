@@ -62,7 +62,7 @@ pub fn uses() {
 }
 
 // Document 02, slip 9: a proof with two parts that are not needed; without them it is p, of the same type.
-pub fn simplified(register: &[u32; 70]) {
+pub fn simplified(register: &[u32; 71]) {
     heading(b"Simplified proofs");
     let longer = longer_proof();
     check_line(b"longer p", register, &longer);

@@ -5,7 +5,8 @@ use borrow.Author.Needs.{needs}
 use Rattle.register.specs.Batch.{most-items}
 use Rattle.register.specs.Calls.{Lent}
 use Rattle.shared_tests.specs.Shared.{lent-of}
-use Rattle.host.proofs.Codes.{Fits, batched-all, batch-fits, batched-none}
+use Rattle.host.specs.Answers.{Fits}
+use Rattle.host.proofs.Codes.{batched-all, batch-fits, batched-none}
 use Rattle.host.proofs.aura0_batch.Statement.{statement}
 use Rattle.host.proofs.aura0_batch.Tie as tie
 

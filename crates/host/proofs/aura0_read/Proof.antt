@@ -1,4 +1,5 @@
 -- Read, and its answer as one number, with where the body stands.
+use Rattle.read_call.proofs.ReadAnswers.{one-less}
 use Rattle.host.proofs.Starts.{Present, number-fits, not-read, present, start-fits, read-to}
 use native.Mathlib.Omega.{arith}
 use borrow.Author.Needs.{needs}
@@ -31,7 +32,7 @@ found : (c : tie.Else1) → Present (c .before .before .before .before .before .
 found c = let a = c .before .before .before .before .before .args in present (a .register .now) (a .«record») _ (c .before .read .ensures .1 .1) (c .if1 .left)
 
 place-requires : tie.Need-place-requires
-place-requires c κs = found c .among
+place-requires c κs = one-less (found c .among)
 
 add-start : tie.Need-add-start
 add-start c =

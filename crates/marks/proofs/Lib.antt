@@ -1,0 +1,2 @@
+-- The calls meet their contracts.
+pub mod MarkAnswers

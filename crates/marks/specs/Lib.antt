@@ -1,0 +1,2 @@
+-- What the mark calls answer and leave.
+pub mod Answers
