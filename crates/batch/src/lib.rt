@@ -1,12 +1,14 @@
 // Batch: "up to 16 requests granted together", or no word changed. Only when the last item has passed its tests are
 // they written.
+#![tactic(auto)]
+
 ghost use Rattle.std.specs.Prelude.{◌≡◌, ℕ, List};
 ghost use Rattle.register.specs.Records.{appended};
 ghost use Rattle.register.specs.Calls.{Lent, entry};
 ghost use Rattle.register.specs.Batch.{items as items_of, GrantedInTurn};
 ghost use Rattle.shared_tests.specs.Shared.{lent_of};
 ghost use Rattle.batch.specs.Answers.{BatchedAs, AllGranted, GrantRoom};
-ghost use Rattle.item_list.specs.Items.{ask-at, ItemWithin};
+ghost use Rattle.item_list.specs.Items.{ask_at, ItemWithin};
 
 use batch_tests::{Batched, testable};
 use item_list::{Item, item_at};
@@ -15,8 +17,8 @@ use write_records::add_grant;
 
 // The grant and the receipt of the item that stands at a place and ends at another.
 fn grant_item(register: &mut [u32], day: u32, items: &[u32], at: usize, end: usize)
-    requires { ItemWithin items.now at end × GrantRoom register.old (ask-at day items.now at end) }
-    ensures { register.new ≡ appended register.old day (entry (ask-at day items.now at end)) }
+    requires { ItemWithin items.now at end × GrantRoom register.old (ask_at day items.now at end) }
+    ensures { register.new ≡ appended register.old day (entry (ask_at day items.now at end)) }
 {
     add_grant(
         register,

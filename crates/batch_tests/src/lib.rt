@@ -1,16 +1,18 @@
 // The tests of a batch. The items are tested in turn without writing, each behind those before it.
+#![tactic(auto)]
+
 ghost use Rattle.std.specs.Prelude.{◌≡◌, List, [], take};
 ghost use Rattle.logic.specs.Term.{Term};
 ghost use Rattle.typing.specs.Check.{ConstantsOf};
-ghost use Rattle.register.specs.Records.{Content, Ask, register-content};
-ghost use Rattle.register.specs.Calls.{Lent, view as view-seen, outline-of, on-register, day-test, request-own};
-ghost use Rattle.register.specs.Batch.{items as items_of, all-granted, at-index, batch-call};
-ghost use Rattle.register.specs.BatchTests.{view-behind, items-own, at-start};
+ghost use Rattle.register.specs.Records.{Content, Ask, register_content};
+ghost use Rattle.register.specs.Calls.{Lent, view as view-seen, outline_of, on_register, day_test, request_own};
+ghost use Rattle.register.specs.Batch.{items as items_of, all_granted, at_index, batch_call};
+ghost use Rattle.register.specs.BatchTests.{view_behind, items_own, at_start};
 ghost use Rattle.logic.specs.Result.{ok};
 ghost use Rattle.shared_tests.specs.Shared.{lent_of};
-ghost use Rattle.batch_tests.specs.Answers.{batched-answer, TestableItems};
-ghost use Rattle.item_list.specs.Items.{ask-at, ItemWithin};
-ghost use Rattle.words.specs.Verdict.{verdict-answer};
+ghost use Rattle.batch_tests.specs.Answers.{batched_answer, TestableItems};
+ghost use Rattle.item_list.specs.Items.{ask_at, ItemWithin};
+ghost use Rattle.words.specs.Verdict.{verdict_answer};
 ghost use Rattle.request.specs.Requested.{Seen, Askable};
 
 use buckets::{BUCKETS, fill};
@@ -54,8 +56,8 @@ fn test_item(
         ws.old }
     ensures { (l : Lent) → (Σ : List Term) → (c : Content) → (ks : List Ask) → l.n ≡ n
         → ConstantsOf sig.now table.now Σ → Seen view register.now (take at items.now) day c ks
-        → verdict-answer result ≡ request-own (ask-at day items.now at end)
-        (view-behind ks day (view-seen l (outline-of register.now) c Σ)) }
+        → verdict_answer result ≡ request_own (ask_at day items.now at end)
+        (view_behind ks day (view-seen l (outline_of register.now) c Σ)) }
 {
     request_tests(
         sig,
@@ -88,8 +90,8 @@ fn test_items(
 ) -> Batched
     requires { TestableItems sig.now n table.now register.now buckets.now ws.old }
     ensures { (l : Lent) → (Σ : List Term) → (c : Content) → l.n ≡ n → ConstantsOf sig.now table.now Σ
-        → register-content register.now ≡ ok c
-        → batched-answer result ≡ items-own day 0 [] (items_of day items.now) (view-seen l (outline-of register.now) c Σ) }
+        → register_content register.now ≡ ok c
+        → batched_answer result ≡ items_own day 0 [] (items_of day items.now) (view-seen l (outline_of register.now) c Σ) }
 {
     let whole = view_of(register);
     let source = whole.source;
@@ -133,8 +135,8 @@ fn test_items(
 // The tests of a batch of one item or more that begins with a whole one: the shared ones are made once, and the
 // statements held are put in buckets once.
 fn tried(sig: &[u32], n: u32, register: &[u32], day: u32, items: &[u32], ws: &mut [u32]) -> Batched
-    ensures { batched-answer result ≡ at-start (on-register (lent_of sig.now n ws.old) register.now
-        (λ s. ok (items-own day 0 [] (items_of day items.now) s))) }
+    ensures { batched_answer result ≡ at_start (on_register (lent_of sig.now n ws.old) register.now
+        (λ s. ok (items_own day 0 [] (items_of day items.now) s))) }
 {
     let mut table = [0u32; MOST_CONSTANTS];
     let ready = prepare(sig, n, register, &mut table, ws);
@@ -155,8 +157,8 @@ fn tried(sig: &[u32], n: u32, register: &[u32], day: u32, items: &[u32], ws: &mu
 
 // Those of an empty batch: "tests 1 to 4, 5 for n and the permit and receipt types, and 23".
 fn idle(sig: &[u32], n: u32, register: &[u32], day: u32, ws: &mut [u32]) -> Batched
-    ensures { batched-answer result ≡
-        at-index 0 (on-register (lent_of sig.now n ws.old) register.now (day-test day)) all-granted }
+    ensures { batched_answer result ≡
+        at_index 0 (on_register (lent_of sig.now n ws.old) register.now (day_test day)) all_granted }
 {
     let mut table = [0u32; MOST_CONSTANTS];
     let ready = prepare(sig, n, register, &mut table, ws);
@@ -189,8 +191,8 @@ pub fn testable(
     items: &[u32],
     ws: &mut [u32],
 ) -> Batched
-    ensures { batched-answer result ≡
-        batch-call (lent_of sig.now n ws.old) register.now day items.now }
+    ensures { batched_answer result ≡
+        batch_call (lent_of sig.now n ws.old) register.now day items.now }
 {
     let fine = few(items);
     if !fine {

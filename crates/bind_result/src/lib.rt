@@ -1,6 +1,8 @@
 // The result of a Bind.
+#![tactic(auto)]
+
 ghost use Rattle.logic.specs.Term.{Term};
-ghost use Rattle.rules.specs.Rule.{bind-type};
+ghost use Rattle.rules.specs.Rule.{bind_type};
 ghost use Rattle.rules.specs.Form.{TypeFormed};
 ghost use Rattle.bind_result.specs.BindResult.{Binds, Bindable};
 
@@ -15,7 +17,7 @@ use rules::scope::ENTRY_HEAD;
 // which the `used` words at the end begin.
 pub fn bind(ws: &mut [u32], used: usize, at: usize, m: usize, end: usize) -> Derivation
     requires { Bindable ws.old used m }
-    ensures { (p q B : Term) → Binds ws.old used m p q B → TypeFormed (bind-type at p B) end ws.old ws.new result }
+    ensures { (p q B : Term) → Binds ws.old used m p q B → TypeFormed (bind_type at p B) end ws.old ws.new result }
 {
     let head = ws.len() - used;
     let total = ws[head] as usize;

@@ -1,7 +1,9 @@
 // Check: the type of a term.
+#![tactic(auto)]
+
 ghost use Rattle.std.specs.Prelude.{length};
 ghost use Rattle.typing.specs.Check.{Judged};
-ghost use Rattle.register.specs.Calls.{check-call};
+ghost use Rattle.register.specs.Calls.{check_call};
 ghost use Rattle.check_call.specs.Answers.{HandedAs};
 ghost use Rattle.shared_tests.specs.Shared.{lent_of};
 
@@ -22,7 +24,7 @@ pub fn judge(
     term: &[u32],
     ws: &mut [u32],
 ) -> Derivation
-    ensures { Judged (check-call (lent_of sig.now n ws.old) register.now day term.now)
+    ensures { Judged (check_call (lent_of sig.now n ws.old) register.now day term.now)
         (length term.now) ws.new result }
 {
     let mut table = [0u32; MOST_CONSTANTS];
@@ -55,7 +57,7 @@ pub fn check<'a>(
     number: &mut u32,
     place: &mut usize,
 ) -> &'a mut [u32]
-    ensures { HandedAs (check-call (lent_of sig.now n ws.old) register.now day term.now)
+    ensures { HandedAs (check_call (lent_of sig.now n ws.old) register.now day term.now)
         result.now number.new place.new }
 {
     let judged = judge(sig, n, register, day, term, ws);

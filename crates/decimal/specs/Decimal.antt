@@ -14,8 +14,8 @@ abbrev pub ascii : String → List ℕ
 ascii end-of-text = []
 ascii (c then s) = code c ∷ ascii s
 
-abbrev pub zero-digit : ℕ
-zero-digit = 48
+abbrev pub zero_digit : ℕ
+zero_digit = 48
 
 abbrev pub comma : ℕ
 comma = 44
@@ -26,20 +26,20 @@ feed = 10
 -- a number's last k decimal digits at most, with no zeros in front
 unfoldable pub digits : ℕ → ℕ → List ℕ
 digits zero n = []
-digits (suc k) n = cond (ltb n 10) ((zero-digit + n) ∷ []) (digits k (n / 10) ++ ((zero-digit + n % 10) ∷ []))
+digits (suc k) n = cond (ltb n 10) ((zero_digit + n) ∷ []) (digits k (n / 10) ++ ((zero_digit + n % 10) ∷ []))
 
 -- the digits that hold any 32-bit number
-abbrev pub most-digits : ℕ
-most-digits = 10
+abbrev pub most_digits : ℕ
+most_digits = 10
 
 -- a 32-bit number in decimal
 abbrev pub decimal : ℕ → List ℕ
-decimal n = digits most-digits n
+decimal n = digits most_digits n
 
 -- and a byte after it
 unfoldable pub number : ℕ → ℕ → List ℕ
 number n after = decimal n ++ (after ∷ [])
 
 -- the bytes that this takes at most
-abbrev pub number-bytes : ℕ
-number-bytes = most-digits + 1
+abbrev pub number_bytes : ℕ
+number_bytes = most_digits + 1

@@ -2,45 +2,45 @@
 use Rattle.logic.proofs.Starred.{starred}
 use Rattle.logic.proofs.Order.{order}
 use Rattle.logic.proofs.Sentences.{sentences}
-use Rattle.logic.proofs.WholeProperty.{whole-property}
-use Rattle.logic.proofs.SeparateRefusals.{separate-refusals, separate-examples}
-use Rattle.logic.proofs.FreeVariables.{free-examples}
+use Rattle.logic.proofs.WholeProperty.{whole_property}
+use Rattle.logic.proofs.SeparateRefusals.{separate_refusals, separate_examples}
+use Rattle.logic.proofs.FreeVariables.{free_examples}
 use Rattle.register.proofs.Shape.{shape}
-use Rattle.register.proofs.Worked.{worked-register, worked-days}
-use Rattle.register.proofs.Order.{call-order}
-use Rattle.register.proofs.BatchGuards.{batch-guards}
-use Rattle.register.proofs.HistoryGuards.{history-guards}
-use Rattle.register.proofs.MarkGuards.{mark-guards}
-use Rattle.register.proofs.Paper.{paper-register}
-use Rattle.decimal.proofs.Guards.{decimal-guards}
-use Rattle.homes.proofs.Guards.{homes-guards}
-use Rattle.extract.proofs.Guards.{extract-guards}
-use Rattle.editions.proofs.Guards.{named-guards}
-use Rattle.uses.proofs.Guards.{uses-guards}
-use Rattle.reduction.proofs.Guards.{simplify-guards}
+use Rattle.register.proofs.Worked.{worked_register, worked_days}
+use Rattle.register.proofs.Order.{call_order}
+use Rattle.register.proofs.BatchGuards.{batch_guards}
+use Rattle.register.proofs.HistoryGuards.{history_guards}
+use Rattle.register.proofs.MarkGuards.{mark_guards}
+use Rattle.register.proofs.Paper.{paper_register}
+use Rattle.decimal.proofs.Guards.{decimal_guards}
+use Rattle.homes.proofs.Guards.{homes_guards}
+use Rattle.extract.proofs.Guards.{extract_guards}
+use Rattle.editions.proofs.Guards.{named_guards}
+use Rattle.uses.proofs.Guards.{uses_guards}
+use Rattle.reduction.proofs.Guards.{simplify_guards}
 use Rattle.demands.specs.Guards.{DefinitionGuards}
 
-pub definition-guards : DefinitionGuards
-definition-guards = record {
-  numbers = paper-register;
+pub definition_guards : DefinitionGuards
+definition_guards = record {
+  numbers = paper_register;
   starred = starred;
-  worked = worked-register;
+  worked = worked_register;
   rules = sentences;
-  term-order = order;
-  call-order = call-order;
+  term_order = order;
+  call_order = call_order;
   shapes = shape;
-  histories = history-guards;
-  whole-property = whole-property;
-  separate-refusals = separate-refusals;
-  separate-examples = separate-examples;
-  decimals = decimal-guards;
-  homes = homes-guards;
-  extracts = extract-guards;
-  days = worked-days;
-  names = named-guards;
-  batches = batch-guards;
-  free-variables = free-examples;
-  counts = uses-guards;
-  simplified = simplify-guards;
-  marks = mark-guards;
+  histories = history_guards;
+  whole_property = whole_property;
+  separate_refusals = separate_refusals;
+  separate_examples = separate_examples;
+  decimals = decimal_guards;
+  homes = homes_guards;
+  extracts = extract_guards;
+  days = worked_days;
+  names = named_guards;
+  batches = batch_guards;
+  free_variables = free_examples;
+  counts = uses_guards;
+  simplified = simplify_guards;
+  marks = mark_guards;
 }

@@ -41,14 +41,14 @@ pub record Demands : Type 0 where
   pub simplifies : SimplifyDemands
   -- the third demand, also of lists with extracts, and of both with marks and returns
   pub lists : Demand3
-  pub desk-lists : DeskDemand3
-  pub trial-lists : TrialDemand3
-  pub desk-trial-lists : DeskTrialDemand3
+  pub desk_lists : DeskDemand3
+  pub trial_lists : TrialDemand3
+  pub desk_trial_lists : DeskTrialDemand3
   -- where a return leads, and lists of calls where no mark can be set
   pub back : BackToMark Call
-  pub desk-back : BackToMark DeskCall
-  pub unmarked-lists : NoMarkLaw
-  pub desk-unmarked-lists : DeskNoMarkLaw
+  pub desk_back : BackToMark DeskCall
+  pub unmarked_lists : NoMarkLaw
+  pub desk_unmarked_lists : DeskNoMarkLaw
   -- words past the used count are unread
   pub unread : Unread
   -- what calls that succeed leave, what records state, what a verdict depends on, what lapses

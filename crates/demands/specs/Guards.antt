@@ -29,22 +29,22 @@ pub record DefinitionGuards : Type 0 where
   pub worked : WorkedRegister
   -- the rules; the order of the tests; test 3
   pub rules : Sentences
-  pub term-order : Order
-  pub call-order : CallOrder
+  pub term_order : Order
+  pub call_order : CallOrder
   pub shapes : Shape
   -- lists of calls
   pub histories : HistoryGuards
   -- document 02's slips 1, 2, 3 and 5 to 10
-  pub whole-property : WholeProperty
-  pub separate-refusals : (Σ : List Term) → Signature Σ → SeparateRefusals Σ
-  pub separate-examples : SeparateExamples
+  pub whole_property : WholeProperty
+  pub separate_refusals : (Σ : List Term) → Signature Σ → SeparateRefusals Σ
+  pub separate_examples : SeparateExamples
   pub decimals : DecimalGuards
   pub homes : HomesGuards
   pub extracts : ExtractGuards
   pub days : WorkedDays
   pub names : NamedGuards
   pub batches : BatchGuards
-  pub free-variables : FreeExamples
+  pub free_variables : FreeExamples
   pub counts : UsesGuards
   pub simplified : SimplifyGuards
   pub marks : MarkGuards

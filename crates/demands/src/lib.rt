@@ -1,1 +1,2 @@
 // What is proved, together: stated in specs/ and proved in proofs/; there is no code here.
+#![tactic(auto)]

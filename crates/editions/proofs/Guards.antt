@@ -6,86 +6,86 @@ use mathlib.Core.List.{List}
 use lib.ListN.{get_or}
 use native.Mathlib.Omega.{arith}
 use Rattle.logic.specs.Result.{ok, number_of}
-use Rattle.logic.specs.Term.{payload-of, encode, size}
-use Rattle.logic.specs.Reading.{read, too-deep}
+use Rattle.logic.specs.Term.{payload_of, encode, size}
+use Rattle.logic.specs.Reading.{read, too_deep}
 use Rattle.logic.proofs.Basics.{clash}
 use Rattle.editions.specs.Named.{Named, var', encode', size', counted, erased}
-use Rattle.editions.specs.Edition.{labels, edition-term}
+use Rattle.editions.specs.Edition.{labels, edition_term}
 use Rattle.editions.specs.Convert.{nearest, convert, from_named, Closed}
-use Rattle.editions.specs.Binders.{free, free-first, free-second, binder, binder-second, NamedAt, named, named-signed}
-use Rattle.editions.specs.Binders.{named-first, named-second, OnlyNames}
+use Rattle.editions.specs.Binders.{free, free_first, free_second, binder, binder_second, NamedAt, named, named_signed}
+use Rattle.editions.specs.Binders.{named_first, named_second, OnlyNames}
 use Rattle.editions.specs.declared.Edition.TheVariants.{Names}
 use Rattle.editions.specs.Guards.{lam, lams, NamedGuards}
-use Rattle.editions.proofs.Editions.{edition-term-right}
-use Rattle.editions.proofs.Unbound.{convert-refused}
+use Rattle.editions.proofs.Editions.{edition_term_right}
+use Rattle.editions.proofs.Unbound.{convert_refused}
 use Rattle.editions.proofs.Refuses.{converters}
 use Rattle.editions.proofs.Laws.{laws}
 
 -- the law on two named terms that convert
-by-words : (s t : Named) {xs ys : List ℕ} → edition-term Names (encode' s) ≡ ok s → edition-term Names (encode' t) ≡ ok t →
+by_words : (s t : Named) {xs ys : List ℕ} → edition_term Names (encode' s) ≡ ok s → edition_term Names (encode' t) ≡ ok t →
     from_named (encode' s) 5 ≡ ok xs → from_named (encode' t) 5 ≡ ok ys → (xs ≡ ys) ↔ OnlyNames s t
-by-words s t h k = laws.same-words (encode' s) (encode' t) _ _ 5 5 s t ((edition-term-right Names _ s).0 h) ((edition-term-right Names _ t).0 k)
+by_words s t h k = laws.same_words (encode' s) (encode' t) _ _ 5 5 s t ((edition_term_right Names _ s).0 h) ((edition_term_right Names _ t).0 k)
 
 -- Lam k P b in the body of k binders
-lam-by-count : (k : ℕ) (b : Named) → ((x d j : ℕ) → NamedAt x d (suc k) j b → x ≡ d) → (x d j : ℕ) → NamedAt x d k j (lam k b) → x ≡ d
-lam-by-count k b h x d j (named c) = c
-lam-by-count k b h x d j (named-first c) = elim c [ ]
-lam-by-count k b h x d j (named-second {j = i} c) = h x d i c
+lam_by_count : (k : ℕ) (b : Named) → ((x d j : ℕ) → NamedAt x d (suc k) j b → x ≡ d) → (x d j : ℕ) → NamedAt x d k j (lam k b) → x ≡ d
+lam_by_count k b h x d j (named c) = c
+lam_by_count k b h x d j (named_first c) = elim c [ ]
+lam_by_count k b h x d j (named_second {j = i} c) = h x d i c
 
-no-binder-there : {x d k j y : ℕ} → NamedAt x d k j (var' y) → ⊥
-no-binder-there = elim [ ]
+no_binder_there : {x d k j y : ℕ} → NamedAt x d k j (var' y) → ⊥
+no_binder_there = elim [ ]
 
-pub named-guards : NamedGuards
-unfolding read too-deep encode size encode' size' counted erased labels nearest convert Closed lams
-named-guards = record {
-  rule-named = refl;
-  rule-back = refl;
-  nearest-of-two = refl;
-  nearer-of-another = refl;
-  no-names-in-sign = refl;
-  names-behind-sign = refl;
-  no-counts-in-sign = refl;
-  anew-in-sign = refl;
-  domain-outside = refl;
-  lam-domain-outside = refl;
-  proof-outside = refl;
-  count-outside = refl;
-  named-in-domain = refl;
-  first-unbound = refl;
-  count-unbound = refl;
-  unbound-first = refl;
-  one-short = refl;
+pub named_guards : NamedGuards
+unfolding read too_deep encode size encode' size' counted erased labels nearest convert Closed lams
+named_guards = record {
+  rule_named = refl;
+  rule_back = refl;
+  nearest_of_two = refl;
+  nearer_of_another = refl;
+  no_names_in_sign = refl;
+  names_behind_sign = refl;
+  no_counts_in_sign = refl;
+  anew_in_sign = refl;
+  domain_outside = refl;
+  lam_domain_outside = refl;
+  proof_outside = refl;
+  count_outside = refl;
+  named_in_domain = refl;
+  first_unbound = refl;
+  count_unbound = refl;
+  unbound_first = refl;
+  one_short = refl;
   exact = refl;
-  back-one-short = refl;
+  back_one_short = refl;
   any_name = refl;
-  no-name-on-says = refl;
-  no-payload-on-pi = refl;
-  no-name-on-pi = refl;
+  no_name_on_says = refl;
+  no_payload_on_pi = refl;
+  no_name_on_pi = refl;
   empty = refl;
-  back-empty = refl;
-  missing-first = refl;
-  nested-32 = refl;
-  nested-33 = refl;
-  back-nested-33 = refl;
+  back_empty = refl;
+  missing_first = refl;
+  nested_32 = refl;
+  nested_33 = refl;
+  back_nested_33 = refl;
   past = refl;
-  back-past = refl;
+  back_past = refl;
   not_written = refl;
-  back-not-written = refl;
-  binder-of-body = binder-second (binder refl free);
-  binder-of-domain = binder refl (free-first free);
-  binder-counted = binder refl (free-second refl free);
-  no-binder = ((convert-refused Names _ 24 1).0 refl).1.alone;
-  hidden = λ b. let e = laws.one-binder b (binder-second (binder refl free)) in omega arith;
-  first-of-two = ((convert-refused Names _ 24 1).0 refl).1;
-  not-short-yet = λ r. let e = ap number_of (((converters.answers Names _ 0).refuses 25 0).1 r) in omega arith;
-  closed-in-sign = (tt, (tt, omega arith));
-  open-in-sign = λ c. let l = c.1 in omega arith;
-  counted-in-body = named-second (named refl);
-  counted-in-domain = named-first (named refl);
-  counted-in-sign = named-second (named-second (named-signed (named refl)));
-  counted-further-in = named-second (named-second (named-signed (named-second (named refl))));
-  by_count = lam-by-count 0 _ (lam-by-count 1 (var' 0) λ x d j c. absurd (no-binder-there c));
-  not-by-count = λ h. let e = h 2 1 2 (named-second (named refl)) in omega arith;
-  other-names = (by-words _ _ refl refl refl refl).0 refl;
-  other-binder = λ o. clash (ap (λ xs. payload-of (get_or xs 4 0)) (sym ((by-words _ _ refl refl refl refl).1 o)));
+  back_not_written = refl;
+  binder_of_body = binder_second (binder refl free);
+  binder_of_domain = binder refl (free_first free);
+  binder_counted = binder refl (free_second refl free);
+  no_binder = ((convert_refused Names _ 24 1).0 refl).1.alone;
+  hidden = λ b. let e = laws.one_binder b (binder_second (binder refl free)) in omega arith;
+  first_of_two = ((convert_refused Names _ 24 1).0 refl).1;
+  not_short_yet = λ r. let e = ap number_of (((converters.answers Names _ 0).refuses 25 0).1 r) in omega arith;
+  closed_in_sign = (tt, (tt, omega arith));
+  open_in_sign = λ c. let l = c.1 in omega arith;
+  counted_in_body = named_second (named refl);
+  counted_in_domain = named_first (named refl);
+  counted_in_sign = named_second (named_second (named_signed (named refl)));
+  counted_further_in = named_second (named_second (named_signed (named_second (named refl))));
+  by_count = lam_by_count 0 _ (lam_by_count 1 (var' 0) λ x d j c. absurd (no_binder_there c));
+  not_by_count = λ h. let e = h 2 1 2 (named_second (named refl)) in omega arith;
+  other_names = (by_words _ _ refl refl refl refl).0 refl;
+  other_binder = λ o. clash (ap (λ xs. payload_of (get_or xs 4 0)) (sym ((by_words _ _ refl refl refl refl).1 o)));
 }

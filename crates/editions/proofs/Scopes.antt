@@ -21,17 +21,17 @@ use Rattle.editions.specs.declared.Edition.TheVariants.{Counts, Names}
 
 -- ---- the nearest binder
 
-pub nearest-here : (x y : ℕ) (ns : List ℕ) → x ≡ y → nearest x (y ∷ ns) ≡ some 0
+pub nearest_here : (x y : ℕ) (ns : List ℕ) → x ≡ y → nearest x (y ∷ ns) ≡ some 0
 unfolding nearest
-nearest-here x y ns e = rw (eq-eqb x y e) refl
+nearest_here x y ns e = rw (eq-eqb x y e) refl
 
-pub nearest-there : (x y : ℕ) (ns : List ℕ) → (x ≡ y → ⊥) → nearest x (y ∷ ns) ≡ one_more (nearest x ns)
+pub nearest_there : (x y : ℕ) (ns : List ℕ) → (x ≡ y → ⊥) → nearest x (y ∷ ns) ≡ one_more (nearest x ns)
 unfolding nearest
-nearest-there x y ns d = rw (ne_eqb x y d) refl
+nearest_there x y ns d = rw (ne_eqb x y d) refl
 
-more-is : (o : Option ℕ) (k : ℕ) → one_more o ≡ some k → (m : ℕ) × (o ≡ some m) × (k ≡ suc m)
-more-is none k e = absurd (clash (cc))
-more-is (some n) k e = let h : suc n ≡ k = cc in (n, refl, sym h)
+more_is : (o : Option ℕ) (k : ℕ) → one_more o ≡ some k → (m : ℕ) × (o ≡ some m) × (k ≡ suc m)
+more_is none k e = absurd (clash (cc))
+more_is (some n) k e = let h : suc n ≡ k = cc in (n, refl, sym h)
 
 equal? : (x y : ℕ) → (x ≡ y) ⊎ (x ≡ y → ⊥)
 equal? x y = go (eqb x y) refl
@@ -46,12 +46,12 @@ pub entered : (b : Bool) (l : Label b) (ns : List ℕ) → length (enter Counts 
 entered true l ns = refl
 entered false l ns = refl
 
-pub enter-scope : (e : Edition) (b : Bool) (l : Label b) (ns : List ℕ) → ScopeOf e ns → ScopeOf e (enter e b l ns)
+pub enter_scope : (e : Edition) (b : Bool) (l : Label b) (ns : List ℕ) → ScopeOf e ns → ScopeOf e (enter e b l ns)
 unfolding upto
-enter-scope Names true x ns h = tt
-enter-scope Names false l ns h = tt
-enter-scope Counts true x ns h = ap (λ (ms : List ℕ). length ns ∷ ms) h
-enter-scope Counts false l ns h = h
+enter_scope Names true x ns h = tt
+enter_scope Names false l ns h = tt
+enter_scope Counts true x ns h = ap (λ (ms : List ℕ). length ns ∷ ms) h
+enter_scope Counts false l ns h = h
 
 pub no_names : (e : Edition) → ScopeOf e []
 unfolding upto
@@ -68,18 +68,18 @@ named_back (x ∷ ns) (suc n) y h e =
     let (l, m) = named_back ns n y (cc) e in
     (omega arith, rw (ne_eqb y x (omega arith)) (ap one_more m))
 
-nearest-below : (x : ℕ) (ns : List ℕ) (k : ℕ) → nearest x ns ≡ some k → k < length ns
+nearest_below : (x : ℕ) (ns : List ℕ) (k : ℕ) → nearest x ns ≡ some k → k < length ns
 unfolding nearest
-nearest-below x [] k e = absurd (clash (cc))
-nearest-below x (y ∷ ns) k e = elim (equal? x y) [
-  | inl c ↦ (let z : some 0 ≡ some k = sym (nearest-here x y ns c) ∙ e in let w : 0 ≡ k = cc in omega arith)
-  | inr d ↦ (let (m, f, g) = more-is (nearest x ns) k (sym (nearest-there x y ns d) ∙ e) in let l = nearest-below x ns m f in omega arith)
+nearest_below x [] k e = absurd (clash (cc))
+nearest_below x (y ∷ ns) k e = elim (equal? x y) [
+  | inl c ↦ (let z : some 0 ≡ some k = sym (nearest_here x y ns c) ∙ e in let w : 0 ≡ k = cc in omega arith)
+  | inr d ↦ (let (m, f, g) = more_is (nearest x ns) k (sym (nearest_there x y ns d) ∙ e) in let l = nearest_below x ns m f in omega arith)
 ]
 
 -- what a variable becomes is below the number of names
-pub meaning-below : (e : Edition) (ns : List ℕ) (r k : ℕ) → ScopeOf e ns → meaning e r ns ≡ some k → k < length ns
-meaning-below Names ns r k h m = nearest-below r ns k m
-meaning-below Counts ns r k h m = (named_back ns r k h m).0
+pub meaning_below : (e : Edition) (ns : List ℕ) (r k : ℕ) → ScopeOf e ns → meaning e r ns ≡ some k → k < length ns
+meaning_below Names ns r k h m = nearest_below r ns k m
+meaning_below Counts ns r k h m = (named_back ns r k h m).0
 
 -- ---- what a variable of a node's second child means
 
@@ -88,59 +88,59 @@ pub record Outside (e : Edition) (b : Bool) (l : Label b) (ns : List ℕ) (r k :
   pub r' : ℕ
   pub k' : ℕ
   pub frees : Frees e b l r r'
-  pub frees-other : Frees (other e) b (relabel e b ns) k k'
+  pub frees_other : Frees (other e) b (relabel e b ns) k k'
   pub means : meaning e r' ns ≡ some k'
 
 -- by the node itself, and so does what it becomes; or by the names outside
-pub means-cases : (e : Edition) (b : Bool) (l : Label b) (ns : List ℕ) (r k : ℕ) → ScopeOf e ns → meaning e r (enter e b l ns) ≡ some k →
+pub means_cases : (e : Edition) (b : Bool) (l : Label b) (ns : List ℕ) (r k : ℕ) → ScopeOf e ns → meaning e r (enter e b l ns) ≡ some k →
     (IsBinder e b l r × IsBinder (other e) b (relabel e b ns) k) ⊎ Outside e b l ns r k
-means-cases Names false l ns r k h m = inr (record { r' = r; k' = k; frees = refl; frees-other = refl; means = m })
-means-cases Counts false l ns r k h m = inr (record { r' = r; k' = k; frees = refl; frees-other = refl; means = m })
-means-cases Names true y ns x k h m = elim (equal? x y) [
-  | inl c ↦ (let z : some 0 ≡ some k = sym (nearest-here x y ns c) ∙ m in let w : 0 ≡ k = cc in inl (c, sym w))
-  | inr d ↦ (let (j, e, f) = more-is (nearest x ns) k (sym (nearest-there x y ns d) ∙ m) in
-      inr (record { r' = x; k' = j; frees = (d, refl); frees-other = f; means = e }))
+means_cases Names false l ns r k h m = inr (record { r' = r; k' = k; frees = refl; frees_other = refl; means = m })
+means_cases Counts false l ns r k h m = inr (record { r' = r; k' = k; frees = refl; frees_other = refl; means = m })
+means_cases Names true y ns x k h m = elim (equal? x y) [
+  | inl c ↦ (let z : some 0 ≡ some k = sym (nearest_here x y ns c) ∙ m in let w : 0 ≡ k = cc in inl (c, sym w))
+  | inr d ↦ (let (j, e, f) = more_is (nearest x ns) k (sym (nearest_there x y ns d) ∙ m) in
+      inr (record { r' = x; k' = j; frees = (d, refl); frees_other = f; means = e }))
 ]
-means-cases Counts true y ns zero k h m = let z : length ns ≡ k = cc in inl (refl, sym z)
-means-cases Counts true y ns (suc n) k h m =
+means_cases Counts true y ns zero k h m = let z : length ns ≡ k = cc in inl (refl, sym z)
+means_cases Counts true y ns (suc n) k h m =
     let l = (named_back ns n k h m).0 in
-    inr (record { r' = n; k' = k; frees = refl; frees-other = ((λ e. omega arith), refl); means = m })
+    inr (record { r' = n; k' = k; frees = refl; frees_other = ((λ e. omega arith), refl); means = m })
 
 -- what a node binds, its second child sees; what it leaves free and is seen outside, too
-pub binds-means : (e : Edition) (b : Bool) (l : Label b) (ns : List ℕ) (r : ℕ) → IsBinder e b l r → (k : ℕ) × (meaning e r (enter e b l ns) ≡ some k)
-binds-means Names false l ns r c = absurd c
-binds-means Counts false l ns r c = absurd c
-binds-means Names true y ns x c = (0, nearest-here x y ns c)
-binds-means Counts true y ns n c = (length ns, ap (get_elem? (length ns ∷ ns)) c)
+pub binds_means : (e : Edition) (b : Bool) (l : Label b) (ns : List ℕ) (r : ℕ) → IsBinder e b l r → (k : ℕ) × (meaning e r (enter e b l ns) ≡ some k)
+binds_means Names false l ns r c = absurd c
+binds_means Counts false l ns r c = absurd c
+binds_means Names true y ns x c = (0, nearest_here x y ns c)
+binds_means Counts true y ns n c = (length ns, ap (get_elem? (length ns ∷ ns)) c)
 
-pub frees-means : (e : Edition) (b : Bool) (l : Label b) (ns : List ℕ) (r r' k : ℕ) → Frees e b l r r' → meaning e r' ns ≡ some k →
+pub frees_means : (e : Edition) (b : Bool) (l : Label b) (ns : List ℕ) (r r' k : ℕ) → Frees e b l r r' → meaning e r' ns ≡ some k →
     (j : ℕ) × (meaning e r (enter e b l ns) ≡ some j)
-frees-means Names false l ns r r' k f m = (k, ap (λ x. nearest x ns) f ∙ m)
-frees-means Counts false l ns r r' k f m = (k, ap (get_elem? ns) f ∙ m)
-frees-means Names true y ns x x' k f m = (suc k, nearest-there x y ns f.0 ∙ ap one_more (ap (λ z. nearest z ns) f.1 ∙ m))
-frees-means Counts true y ns n n' k f m = (k, ap (get_elem? (length ns ∷ ns)) f ∙ m)
+frees_means Names false l ns r r' k f m = (k, ap (λ x. nearest x ns) f ∙ m)
+frees_means Counts false l ns r r' k f m = (k, ap (get_elem? ns) f ∙ m)
+frees_means Names true y ns x x' k f m = (suc k, nearest_there x y ns f.0 ∙ ap one_more (ap (λ z. nearest z ns) f.1 ∙ m))
+frees_means Counts true y ns n n' k f m = (k, ap (get_elem? (length ns ∷ ns)) f ∙ m)
 
-pub none-means : (e : Edition) (r k : ℕ) → meaning e r [] ≡ some k → ⊥
+pub none_means : (e : Edition) (r k : ℕ) → meaning e r [] ≡ some k → ⊥
 unfolding nearest
-none-means Names r k m = clash (cc)
-none-means Counts r k m = clash (cc)
+none_means Names r k m = clash (cc)
+none_means Counts r k m = clash (cc)
 
 -- a node does not bind what it leaves free, and a variable is one thing outside
-pub frees-apart : (e : Edition) (b : Bool) (l : Label b) (r r' : ℕ) → Frees e b l r r' → IsBinder e b l r → ⊥
-frees-apart Names false l r r' f c = c
-frees-apart Counts false l r r' f c = c
-frees-apart Names true y x x' f c = f.0 c
-frees-apart Counts true y n n' f c = omega arith
+pub frees_apart : (e : Edition) (b : Bool) (l : Label b) (r r' : ℕ) → Frees e b l r r' → IsBinder e b l r → ⊥
+frees_apart Names false l r r' f c = c
+frees_apart Counts false l r r' f c = c
+frees_apart Names true y x x' f c = f.0 c
+frees_apart Counts true y n n' f c = omega arith
 
-pub frees-once : (e : Edition) (b : Bool) (l : Label b) (r x y : ℕ) → Frees e b l r x → Frees e b l r y → x ≡ y
-frees-once Names false l r x y f g = omega arith
-frees-once Counts false l r x y f g = omega arith
-frees-once Names true z r x y f g = sym f.1 ∙ g.1
-frees-once Counts true z r x y f g = omega arith
+pub frees_once : (e : Edition) (b : Bool) (l : Label b) (r x y : ℕ) → Frees e b l r x → Frees e b l r y → x ≡ y
+frees_once Names false l r x y f g = omega arith
+frees_once Counts false l r x y f g = omega arith
+frees_once Names true z r x y f g = sym f.1 ∙ g.1
+frees_once Counts true z r x y f g = omega arith
 
 -- what is seen outside a node is one variable of its second child
-pub frees-from : (e : Edition) (b : Bool) (l : Label b) (x y r : ℕ) → Frees e b l x r → Frees e b l y r → x ≡ y
-frees-from Names false l x y r f g = omega arith
-frees-from Counts false l x y r f g = omega arith
-frees-from Names true z x y r f g = f.1 ∙ sym g.1
-frees-from Counts true z x y r f g = omega arith
+pub frees_from : (e : Edition) (b : Bool) (l : Label b) (x y r : ℕ) → Frees e b l x r → Frees e b l y r → x ≡ y
+frees_from Names false l x y r f g = omega arith
+frees_from Counts false l x y r f g = omega arith
+frees_from Names true z x y r f g = f.1 ∙ sym g.1
+frees_from Counts true z x y r f g = omega arith

@@ -2,13 +2,13 @@
 use Rattle.std.specs.Prelude.{ℕ, zero, suc, ◌+◌, ◌<◌, ◌≡◌, Bool, true, false, cond, List, [], ◌∷◌, eqb, leb, length}
 use Rattle.std.proofs.Math.Option.{Option, some, none}
 use Rattle.std.proofs.Math.ListN.{get_elem?}
-use Rattle.logic.specs.Limits.{most-words, most-nesting}
-use Rattle.logic.specs.Refusals.{unbound, output-short}
+use Rattle.logic.specs.Limits.{most_words, most_nesting}
+use Rattle.logic.specs.Refusals.{unbound, output_short}
 use Rattle.logic.specs.Result.{Result, ok, ◌>>=◌, ◌>>◌, known, require}
 use Rattle.logic.specs.Term.{Term, atom, var, sign, node, binds, under, encode}
 use Rattle.logic.specs.Check.{term_of}
 use Rattle.editions.specs.Named.{Label, Named, atom', var', sign', node', size', encode', counted, erased}
-use Rattle.editions.specs.Edition.{edition-term}
+use Rattle.editions.specs.Edition.{edition_term}
 use Rattle.editions.specs.declared.Edition.{Edition}
 use Rattle.editions.specs.declared.Edition.TheVariants.{Counts, Names}
 
@@ -82,18 +82,18 @@ Closed d (node o a b) = Closed d a × Closed (under (binds o) suc d) b
 -- the words that are written into an output of so many words: "an output shorter than the term is 25 after it"
 abbrev pub fitting : ℕ → List ℕ → Result (List ℕ)
 fitting room ws = do
-  require (leb (length ws) room) output-short 0
+  require (leb (length ws) room) output_short 0
   ok ws
 
 abbrev pub from_named : List ℕ → ℕ → Result (List ℕ)
 from_named ws room = do
-  s ← edition-term Names ws
+  s ← edition_term Names ws
   t ← unname s
   fitting room (encode t)
 
 abbrev pub to_named : List ℕ → ℕ → Result (List ℕ)
 to_named ws room = do
-  t ← term_of most-words most-nesting ws
+  t ← term_of most_words most_nesting ws
   s ← name t
   fitting room (encode' s)
 

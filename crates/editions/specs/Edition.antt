@@ -1,11 +1,11 @@
 -- The two editions: which terms their words give, and how they are read. One reader serves both: document 01's, on the
 -- words without the names of their binders. In document 01's edition these are the words themselves.
 use Rattle.std.specs.Prelude.{ℕ, suc, ◌+◌, ◌≤◌, ◌<◌, ◌≡◌, Bool, true, false, cond, List, map, ◌++◌, length, take, get_or}
-use Rattle.logic.specs.Limits.{payloads, most-words, most-nesting}
+use Rattle.logic.specs.Limits.{payloads, most_words, most_nesting}
 use Rattle.logic.specs.Result.{Result, ok, ◌>>=◌}
-use Rattle.logic.specs.Term.{Term, atom, var, sign, node, binds, word, tag_of, payload-of, size}
-use Rattle.logic.specs.Reading.{word-shape, PlainAtom, depth}
-use Rattle.logic.specs.Kind.{shape-binds}
+use Rattle.logic.specs.Term.{Term, atom, var, sign, node, binds, word, tag_of, payload_of, size}
+use Rattle.logic.specs.Reading.{word_shape, PlainAtom, depth}
+use Rattle.logic.specs.Kind.{shape_binds}
 use Rattle.logic.specs.Check.{term_of}
 use Rattle.editions.specs.Named.{Label, Named, atom', var', sign', node', label, encode', erased}
 use Rattle.editions.specs.declared.Edition.{Edition}
@@ -51,8 +51,8 @@ pub record WordsOf' (e : Edition) (ws : List ℕ) (s : Named) : Type 0 where
   pub plain : Plain' e s
   pub words : ws ≡ encode' s
   pub some_word : 1 ≤ length ws
-  pub not_more : length ws ≤ most-words
-  pub nested : depth (erased s) ≤ most-nesting
+  pub not_more : length ws ≤ most_words
+  pub nested : depth (erased s) ≤ most_nesting
 
 -- ---- reading
 
@@ -63,17 +63,17 @@ tag_word w = word (tag_of w) 0
 -- a word without the name that it carries as a binder
 abbrev pub unnamed : Edition → ℕ → ℕ
 unnamed Counts w = w
-unnamed Names w = cond (shape-binds (word-shape (tag_word w))) (tag_word w) w
+unnamed Names w = cond (shape_binds (word_shape (tag_word w))) (tag_word w) w
 
 -- the term t, whose words without names stand in ws from the place at on, with the names that ws have
 unfoldable pub labels : List ℕ → ℕ → Term → Named
 labels ws at (atom a) = atom' a
 labels ws at (var n) = var' n
 labels ws at (sign p q) = sign' p (labels ws (at + 1) q)
-labels ws at (node o a b) = node' o (label (binds o) (payload-of (get_or ws at 0))) (labels ws (at + 1) a) (labels ws (at + 1 + size a) b)
+labels ws at (node o a b) = node' o (label (binds o) (payload_of (get_or ws at 0))) (labels ws (at + 1) a) (labels ws (at + 1 + size a) b)
 
 -- "Either kind passes 6 to 8 first"; in the named edition 7 admits any payload on Pi, Lam and Bind
-abbrev pub edition-term : Edition → List ℕ → Result Named
-edition-term e ws = do
-  t ← term_of most-words most-nesting (map (unnamed e) ws)
+abbrev pub edition_term : Edition → List ℕ → Result Named
+edition_term e ws = do
+  t ← term_of most_words most_nesting (map (unnamed e) ws)
   ok (labels ws 0 t)

@@ -1,8 +1,8 @@
 -- Terms of the edition with named variables: "each Pi, Lam and Bind carries a name number as payload, and a variable
 -- carries a name". Sentences in quotation marks here and in the modules after this one are document 02's, slip 6.
 use Rattle.std.specs.Prelude.{ℕ, suc, ◌+◌, Bool, true, false, List, [], ◌∷◌, ◌++◌}
-use Rattle.logic.specs.Tags.{tag-variable, tag-sign}
-use Rattle.logic.specs.Term.{Atom, Op, Term, atom, var, sign, node, binds, atom-word, op-word, word}
+use Rattle.logic.specs.Tags.{tag_variable, tag_sign}
+use Rattle.logic.specs.Term.{Atom, Op, Term, atom, var, sign, node, binds, atom_word, op_word, word}
 
 -- what a node carries beside its children: a binder a name, any other node nothing
 abbrev pub Label : Bool → Type 0
@@ -21,10 +21,10 @@ labelled true x w = w + x
 labelled false l w = w
 
 unfoldable pub encode' : Named → List ℕ
-encode' (atom' a) = atom-word a ∷ []
-encode' (var' x) = word tag-variable x ∷ []
-encode' (sign' p q) = word tag-sign p ∷ encode' q
-encode' (node' o l a b) = labelled (binds o) l (op-word o) ∷ (encode' a ++ encode' b)
+encode' (atom' a) = atom_word a ∷ []
+encode' (var' x) = word tag_variable x ∷ []
+encode' (sign' p q) = word tag_sign p ∷ encode' q
+encode' (node' o l a b) = labelled (binds o) l (op_word o) ∷ (encode' a ++ encode' b)
 
 unfoldable pub size' : Named → ℕ
 size' (atom' a) = 1

@@ -1,8 +1,8 @@
 -- When a term is converted and when and where it is refused, said by relations and not by the tests: what the first
 -- demand says of the two converters. A constructor is a test in its order: those before it passed, and this one fails.
 use Rattle.std.specs.Prelude.{ℕ, ◌≤◌, ◌<◌, ◌≡◌, List, length, drop}
-use Rattle.logic.specs.Limits.{most-words, most-nesting}
-use Rattle.logic.specs.Refusals.{term-length, malformed, nesting, unbound, output-short}
+use Rattle.logic.specs.Limits.{most_words, most_nesting}
+use Rattle.logic.specs.Refusals.{term_length, malformed, nesting, unbound, output_short}
 use Rattle.logic.specs.Result.{ok, Answers}
 use Rattle.logic.specs.Reading.{FirstTooDeep}
 use Rattle.logic.specs.Refused.{BadLength, GoodLength}
@@ -18,7 +18,7 @@ pub record TooDeep' (e : Edition) (ws : List ℕ) (p : ℕ) : Type 0 where
   pub s : Named
   pub plain : Plain' e s
   pub words : ws ≡ encode' s
-  pub first : FirstTooDeep most-nesting 0 (erased s) p
+  pub first : FirstTooDeep most_nesting 0 (erased s) p
 
 -- every variable has its binder
 abbrev pub AllBound : Edition → Named → Type 0
@@ -26,11 +26,11 @@ AllBound e s = (r i : ℕ) → VariableAt r i s → (j : ℕ) × BinderAt e i j 
 
 module _ (e : Edition) (ws : List ℕ) (room : ℕ) where
   pub data ConvertRefused : (number place : ℕ) → Type 0 where
-    convert-6 : BadLength most-words ws → ConvertRefused term-length 0
-    convert-7 : {p : ℕ} → GoodLength most-words ws → Malformed' e ws p → ConvertRefused malformed p
-    convert-8 : {p : ℕ} → GoodLength most-words ws → TooDeep' e ws p → ConvertRefused nesting p
-    convert-24 : {s : Named} {p : ℕ} → WordsOf' e ws s → FirstUnbound e s p → ConvertRefused unbound p
-    convert-25 : {s : Named} → WordsOf' e ws s → AllBound e s → room < length ws → ConvertRefused output-short 0
+    convert_6 : BadLength most_words ws → ConvertRefused term_length 0
+    convert_7 : {p : ℕ} → GoodLength most_words ws → Malformed' e ws p → ConvertRefused malformed p
+    convert_8 : {p : ℕ} → GoodLength most_words ws → TooDeep' e ws p → ConvertRefused nesting p
+    convert_24 : {s : Named} {p : ℕ} → WordsOf' e ws s → FirstUnbound e s p → ConvertRefused unbound p
+    convert_25 : {s : Named} → WordsOf' e ws s → AllBound e s → room < length ws → ConvertRefused output_short 0
 
   -- a term with the words ws is converted into one with the words xs: a term of the other edition with each variable's
   -- binder at the same word, and with the names that it is given

@@ -1,6 +1,8 @@
 // Extract: a request, and behind its grant every home of a list with its survey code. "It works from the register's
 // published answers only": nothing here reads a word of the register.
-ghost use Rattle.register.specs.Records.{ask-of};
+#![tactic(auto)]
+
+ghost use Rattle.register.specs.Records.{ask_of};
 ghost use Rattle.shared_tests.specs.Shared.{lent_of};
 ghost use Rattle.extract.specs.Extract.{ExtractedAs};
 
@@ -25,7 +27,7 @@ pub fn extract(
     out: &mut [u32],
 ) -> Verdict
     ensures { ExtractedAs (lent_of sig.now n ws.old) register.old
-        (ask-of operation extract delivery day proof.now) homes.now surveys.now
+        (ask_of operation extract delivery day proof.now) homes.now surveys.now
         register.new out.old out.new result }
 {
     let fine = well_formed(homes, surveys, out.len());

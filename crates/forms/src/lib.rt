@@ -1,8 +1,10 @@
 // The words of a proof in the shape of document 01's p: from a desk rule, and from a statement that the rule takes up.
+#![tactic(auto)]
+
 ghost use Rattle.std.specs.Prelude.{◌≡◌, ◌<◌};
-ghost use Rattle.logic.specs.Limits.{payloads, most-operations};
+ghost use Rattle.logic.specs.Limits.{payloads, most_operations};
 ghost use Rattle.logic.specs.Term.{encode};
-ghost use Rattle.forms.specs.Forms.{proof-form};
+ghost use Rattle.forms.specs.Forms.{proof_form};
 
 use logic::word::{
     APP, BIND, CONSTANT_0, NAME_0, PI, PRIN, RET, SAYS, SIGN_0, STRING, TEXT_0, VARIABLE_0,
@@ -20,8 +22,8 @@ const V2: u32 = VARIABLE_0 + 2;
 // The proof that an extract is permitted for an operation: the rule is by the desk and on the constant q, the statement
 // is App Cq of the extract, by the principal.
 pub fn proof_words(operation: u32, q: u32, extract: u32, principal: u32) -> [u32; PROOF_WORDS]
-    requires { (operation < most-operations) × (q < payloads) × (extract < payloads) × (principal < payloads) }
-    ensures { result ≡ encode (proof-form operation q extract principal) }
+    requires { (operation < most_operations) × (q < payloads) × (extract < payloads) × (principal < payloads) }
+    ensures { result ≡ encode (proof_form operation q extract principal) }
 {
     let permit = CONSTANT_0 + 2 * operation;
     let cq = CONSTANT_0 + q;

@@ -1,21 +1,21 @@
 -- The writing step of an extract: each home of a list with its survey code. Sentences in quotation marks are
 -- document 02's, slip 3.
 use Rattle.std.specs.Prelude.{ℕ, ◌+◌, ◌*◌, ◌≡◌, Bool, true, false, ◌&&◌, not, cond, List, [], ◌∷◌, leb, ltb, eqb, length}
-use Rattle.logic.specs.Refusals.{out-of-form}
+use Rattle.logic.specs.Refusals.{out_of_form}
 use Rattle.logic.specs.Result.{Result, ok, number_of, ◌>>◌, require}
 use Rattle.words.specs.Place.{after_write}
 
 -- "a list of homes (u32, at most 1,024, strictly rising)"
-abbrev pub most-homes : ℕ
-most-homes = 1024
+abbrev pub most_homes : ℕ
+most_homes = 1024
 
 -- "a table of home and survey code (at most 4,096 rows)"; a row is two words
-abbrev pub most-rows : ℕ
-most-rows = 4096
+abbrev pub most_rows : ℕ
+most_rows = 4096
 
 -- "4294967295 where no survey exists, which is never a code"
-abbrev pub no-survey : ℕ
-no-survey = 4294967295
+abbrev pub no_survey : ℕ
+no_survey = 4294967295
 
 -- ---- the form
 
@@ -28,29 +28,29 @@ rising least (h ∷ hs) = leb least h && rising (h + 1) hs
 unfoldable pub rows : ℕ → List ℕ → Bool
 rows least [] = true
 rows least (h ∷ []) = false
-rows least (h ∷ c ∷ t) = leb least h && not (eqb c no-survey) && rows (h + 1) t
+rows least (h ∷ c ∷ t) = leb least h && not (eqb c no_survey) && rows (h + 1) t
 
 -- the list hs, the table t and an output of `room` words are in form
 unfoldable pub formed : (hs t : List ℕ) (room : ℕ) → Bool
 formed hs t room =
-    leb (length hs) most-homes && leb (length t) (2 * most-rows) && leb (2 * length hs) room && rising 0 hs && rows 0 t
+    leb (length hs) most_homes && leb (length t) (2 * most_rows) && leb (2 * length hs) room && rising 0 hs && rows 0 t
 
 -- ---- what is written
 
 -- the code of a home's row
-unfoldable pub survey-code : ℕ → List ℕ → ℕ
-survey-code h [] = no-survey
-survey-code h (x ∷ []) = no-survey
-survey-code h (x ∷ c ∷ t) = cond (eqb x h) c (survey-code h t)
+unfoldable pub survey_code : ℕ → List ℕ → ℕ
+survey_code h [] = no_survey
+survey_code h (x ∷ []) = no_survey
+survey_code h (x ∷ c ∷ t) = cond (eqb x h) c (survey_code h t)
 
 -- "every home in the list's order with its survey code, or 4294967295 where no survey exists"
 unfoldable pub joined : (hs t : List ℕ) → List ℕ
 joined [] t = []
-joined (h ∷ hs) t = h ∷ survey-code h t ∷ joined hs t
+joined (h ∷ hs) t = h ∷ survey_code h t ∷ joined hs t
 
 -- the writing step: its words, or the refusal
-unfoldable pub write-call : (hs t : List ℕ) (room : ℕ) → Result (List ℕ)
-write-call hs t room = require (formed hs t room) out-of-form 0 >> ok (joined hs t)
+unfoldable pub write_call : (hs t : List ℕ) (room : ℕ) → Result (List ℕ)
+write_call hs t room = require (formed hs t room) out_of_form 0 >> ok (joined hs t)
 
 -- the answer's number, and the output afterwards: "output past the last home is unchanged"
 pub record Wrote (o : Result (List ℕ)) (old new : List ℕ) (r : ℕ) : Type 0 where
@@ -60,13 +60,13 @@ pub record Wrote (o : Result (List ℕ)) (old new : List ℕ) (r : ℕ) : Type 0
 -- ---- the first row of what is left of a table
 
 -- it is of a lower home
-unfoldable pub home-passed : ℕ → List ℕ → Bool
-home-passed h [] = false
-home-passed h (x ∷ []) = false
-home-passed h (x ∷ c ∷ t) = ltb x h
+unfoldable pub home_passed : ℕ → List ℕ → Bool
+home_passed h [] = false
+home_passed h (x ∷ []) = false
+home_passed h (x ∷ c ∷ t) = ltb x h
 
 -- its code, if it is of this home
 unfoldable pub here : ℕ → List ℕ → ℕ
-here h [] = no-survey
-here h (x ∷ []) = no-survey
-here h (x ∷ c ∷ t) = cond (eqb x h) c no-survey
+here h [] = no_survey
+here h (x ∷ []) = no_survey
+here h (x ∷ c ∷ t) = cond (eqb x h) c no_survey

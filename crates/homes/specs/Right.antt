@@ -1,7 +1,7 @@
 -- What a right form and a right output are, without any way of testing the one or making the other.
 use Rattle.std.specs.Prelude.{ℕ, ◌+◌, ◌*◌, ◌≤◌, ◌<◌, ◌≡◌, ◌≢◌, ◌↔◌, true, cond, List, [], ◌∷◌, eqb, length, take, get_or}
 use Rattle.words.specs.Place.{written_at}
-use Rattle.homes.specs.Homes.{most-homes, most-rows, no-survey, formed, joined}
+use Rattle.homes.specs.Homes.{most_homes, most_rows, no_survey, formed, joined}
 
 -- "strictly rising": each home is above those before it
 abbrev pub Rising : List ℕ → Type 0
@@ -12,13 +12,13 @@ pub record Table (t : List ℕ) : Type 0 where
   pub count : ℕ
   pub whole : length t ≡ 2 * count
   pub rise : (i j : ℕ) → i < j → j < count → get_or t (2 * i) 0 < get_or t (2 * j) 0
-  pub codes : (i : ℕ) → i < count → get_or t (2 * i + 1) 0 ≢ no-survey
+  pub codes : (i : ℕ) → i < count → get_or t (2 * i + 1) 0 ≢ no_survey
 
 -- the form of a list, a table and an output of so many words
 pub record InForm (hs t : List ℕ) (room : ℕ) : Type 0 where
-  pub homes : length hs ≤ most-homes
+  pub homes : length hs ≤ most_homes
   pub rise : Rising hs
-  pub rows-most : length t ≤ 2 * most-rows
+  pub rows_most : length t ≤ 2 * most_rows
   pub table : Table t
   pub fits : 2 * length hs ≤ room
 
@@ -34,8 +34,8 @@ pub record Row (t : List ℕ) (h c : ℕ) : Type 0 where
 pub record Right (hs t old new : List ℕ) : Type 0 where
   pub size : length new ≡ length old
   pub home : (k : ℕ) → k < length hs → get_or new (2 * k) 0 ≡ get_or hs k 0
-  pub code : (k c : ℕ) → k < length hs → c ≢ no-survey → (get_or new (2 * k + 1) 0 ≡ c) ↔ Row t (get_or hs k 0) c
-  pub none : (k : ℕ) → k < length hs → (get_or new (2 * k + 1) 0 ≡ no-survey) ↔ ((c : ℕ) → Row t (get_or hs k 0) c → ⊥)
+  pub code : (k c : ℕ) → k < length hs → c ≢ no_survey → (get_or new (2 * k + 1) 0 ≡ c) ↔ Row t (get_or hs k 0) c
+  pub none : (k : ℕ) → k < length hs → (get_or new (2 * k + 1) 0 ≡ no_survey) ↔ ((c : ℕ) → Row t (get_or hs k 0) c → ⊥)
   -- "output past the last home is unchanged"
   pub past : (k : ℕ) → 2 * length hs ≤ k → get_or new k 0 ≡ get_or old k 0
 
@@ -43,12 +43,12 @@ pub record Right (hs t old new : List ℕ) : Type 0 where
 unfoldable pub with_code : List ℕ → ℕ
 with_code [] = 0
 with_code (h ∷ []) = 0
-with_code (h ∷ c ∷ ws) = cond (eqb c no-survey) 0 1 + with_code ws
+with_code (h ∷ c ∷ ws) = cond (eqb c no_survey) 0 1 + with_code ws
 
-unfoldable pub without-code : List ℕ → ℕ
-without-code [] = 0
-without-code (h ∷ []) = 0
-without-code (h ∷ c ∷ ws) = cond (eqb c no-survey) 1 0 + without-code ws
+unfoldable pub without_code : List ℕ → ℕ
+without_code [] = 0
+without_code (h ∷ []) = 0
+without_code (h ∷ c ∷ ws) = cond (eqb c no_survey) 1 0 + without_code ws
 
 -- the writing step does what it should
 pub record WritingStep : Type 0 where
@@ -58,4 +58,4 @@ pub record WritingStep : Type 0 where
   pub right : (hs t old new : List ℕ) → InForm hs t (length old) → (new ≡ written_at old 0 (joined hs t)) ↔ Right hs t old new
   -- "Homes listed = homes with a code + homes without", counted on the output's words
   pub counted : (hs t old new : List ℕ) → InForm hs t (length old) → Right hs t old new →
-      length hs ≡ with_code (take (2 * length hs) new) + without-code (take (2 * length hs) new)
+      length hs ≡ with_code (take (2 * length hs) new) + without_code (take (2 * length hs) new)

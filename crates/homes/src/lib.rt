@@ -1,7 +1,9 @@
 // The writing step of an extract: each home of a list with its survey code.
+#![tactic(auto)]
+
 ghost use Rattle.std.specs.Prelude.{true, ◌≡◌, ◌≤◌, length, drop};
 ghost use Rattle.words.specs.Place.{written_at};
-ghost use Rattle.homes.specs.Homes.{rising, rows, formed, joined, home-passed, here, write-call, Wrote};
+ghost use Rattle.homes.specs.Homes.{rising, rows, formed, joined, home_passed, here, write_call, Wrote};
 
 use logic::refusal::OUT_OF_FORM;
 
@@ -72,7 +74,7 @@ pub fn well_formed(homes: &[u32], surveys: &[u32], room: usize) -> bool
 // Whether the row at j is of a lower home.
 fn passed_over(surveys: &[u32], j: usize, home: u32) -> bool
     requires { j ≤ length surveys.now }
-    ensures { result ≡ home-passed home (drop j surveys.now) }
+    ensures { result ≡ home_passed home (drop j surveys.now) }
 {
     if surveys.len() <= j + 1 {
         return false;
@@ -117,7 +119,7 @@ pub fn join(homes: &[u32], surveys: &[u32], out: &mut [u32])
 
 // The writing step: nothing is written where the form is broken.
 pub fn write(homes: &[u32], surveys: &[u32], out: &mut [u32]) -> u32
-    ensures { Wrote (write-call homes.now surveys.now (length out.old)) out.old out.new result }
+    ensures { Wrote (write_call homes.now surveys.now (length out.old)) out.old out.new result }
 {
     let fine = well_formed(homes, surveys, out.len());
     if !fine {

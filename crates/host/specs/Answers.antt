@@ -1,51 +1,51 @@
 -- What a host program in C gets: the answer as one 64-bit number, and what stands in the buffers that it lent.
 use Rattle.std.specs.Prelude.{ℕ, ◌+◌, ◌*◌, ◌≤◌, ◌<◌, ◌≡◌, Bool, true, false, List, length, take, drop}
-use Rattle.logic.specs.Refusals.{last-refusal}
-use Rattle.logic.specs.Result.{Result, ok, refused, ◌>>=◌, ◌>>◌, without-value}
+use Rattle.logic.specs.Refusals.{last_refusal}
+use Rattle.logic.specs.Result.{Result, ok, refused, ◌>>=◌, ◌>>◌, without_value}
 use Rattle.logic.specs.Term.{Term}
-use Rattle.register.specs.Records.{Statement, Ask, record-head, used-by, register-content}
-use Rattle.register.specs.Calls.{Lent, open-call, after_open, say-call, after-say, request-call, after-request, type-of, read-call, body_of, kind-of}
-use Rattle.register.specs.Marks.{mark-call, after-mark, return-call, after-return, marks-after-return, marks-after-open}
-use Rattle.register.specs.Batch.{Batched, all-granted, refused-at, batch-call, batch-leaves}
+use Rattle.register.specs.Records.{Statement, Ask, record_head, used_by, register_content}
+use Rattle.register.specs.Calls.{Lent, open_call, after_open, say_call, after_say, request_call, after_request, type_of, read_call, body_of, kind_of}
+use Rattle.register.specs.Marks.{mark_call, after_mark, return_call, after_return, marks_after_return, marks_after_open}
+use Rattle.register.specs.Batch.{Batched, all_granted, refused_at, batch_call, batch_leaves}
 use Rattle.words.specs.Place.{after_write}
-use Rattle.extract.specs.Extract.{extract-call}
+use Rattle.extract.specs.Extract.{extract_call}
 use Rattle.reduction.specs.Simplify.{Simplified}
-use Rattle.reduction.specs.Call.{result_words, after-simplify}
+use Rattle.reduction.specs.Call.{result_words, after_simplify}
 
 -- "the refusal number times 4294967296 plus the place"
-abbrev pub number-unit : ℕ
-number-unit = 4294967296
+abbrev pub number_unit : ℕ
+number_unit = 4294967296
 
 -- places are below this: a signature and a term that are lent have fewer words
-abbrev pub place-limit : ℕ
-place-limit = 4611686018427387904
+abbrev pub place_limit : ℕ
+place_limit = 4611686018427387904
 
 abbrev pub code_of : {X : Type 0} → Result X → ℕ
 code_of (ok x) = 0
-code_of (refused m p) = m * number-unit + p
+code_of (refused m p) = m * number_unit + p
 
 -- a number and a place that make up an answer, and an answer whose refusal does
 abbrev pub Fits : (number place : ℕ) → Type 0
-Fits m p = (m ≤ last-refusal) × (p < place-limit)
+Fits m p = (m ≤ last_refusal) × (p < place_limit)
 
 abbrev pub Tellable : {X : Type 0} → Result X → Type 0
 Tellable o = (m p : ℕ) → o ≡ refused m p → Fits m p
 
 -- an open
 pub record OpenedTo (l : Lent) (old list : List ℕ) (mode : ℕ) (rules new new-list : List ℕ) (code : ℕ) : Type 0 where
-  pub answer : code ≡ code_of (open-call l old mode rules)
-  pub register : new ≡ after_open (open-call l old mode rules) old mode
-  pub marks : new-list ≡ marks-after-open (open-call l old mode rules) list
+  pub answer : code ≡ code_of (open_call l old mode rules)
+  pub register : new ≡ after_open (open_call l old mode rules) old mode
+  pub marks : new-list ≡ marks_after_open (open_call l old mode rules) list
 
 -- a mark that is set, and a return to one
 pub record MarkedTo (reg list : List ℕ) (n : ℕ) (new-list : List ℕ) (code : ℕ) : Type 0 where
-  pub answer : code ≡ code_of (mark-call reg list n)
-  pub marks : new-list ≡ after-mark (mark-call reg list n) list
+  pub answer : code ≡ code_of (mark_call reg list n)
+  pub marks : new-list ≡ after_mark (mark_call reg list n) list
 
 pub record ReturnedTo (old list : List ℕ) (n : ℕ) (new new-list : List ℕ) (code : ℕ) : Type 0 where
-  pub answer : code ≡ code_of (return-call old list n)
-  pub register : new ≡ after-return (return-call old list n) old
-  pub marks : new-list ≡ marks-after-return (return-call old list n) list
+  pub answer : code ≡ code_of (return_call old list n)
+  pub register : new ≡ after_return (return_call old list n) old
+  pub marks : new-list ≡ marks_after_return (return_call old list n) list
 
 -- a say: 1 where it added a record, else 0
 abbrev pub added_of : Result Bool → ℕ
@@ -54,34 +54,34 @@ added_of (ok false) = 0
 added_of (refused m p) = 0
 
 pub record SaidTo (l : Lent) (old : List ℕ) (day : ℕ) (st : Statement) (new : List ℕ) (added code : ℕ) : Type 0 where
-  pub answer : code ≡ code_of (say-call l old day st)
-  pub register : new ≡ after-say (say-call l old day st) old day st
-  pub added_is : added ≡ added_of (say-call l old day st)
+  pub answer : code ≡ code_of (say_call l old day st)
+  pub register : new ≡ after_say (say_call l old day st) old day st
+  pub added_is : added ≡ added_of (say_call l old day st)
 
 -- a request
 pub record RequestedTo (l : Lent) (old : List ℕ) (k : Ask) (new : List ℕ) (code : ℕ) : Type 0 where
-  pub answer : code ≡ code_of (request-call l old k)
-  pub register : new ≡ after-request (request-call l old k) old k
+  pub answer : code ≡ code_of (request_call l old k)
+  pub register : new ≡ after_request (request_call l old k) old k
 
 -- a batch: also the index of the item refused, 0 where all are granted
-abbrev pub batch-code-of : Batched → ℕ
-batch-code-of all-granted = 0
-batch-code-of (refused-at i m p) = m * number-unit + p
+abbrev pub batch_code_of : Batched → ℕ
+batch_code_of all_granted = 0
+batch_code_of (refused_at i m p) = m * number_unit + p
 
 abbrev pub index_of : Batched → ℕ
-index_of all-granted = 0
-index_of (refused-at i m p) = i
+index_of all_granted = 0
+index_of (refused_at i m p) = i
 
 pub record BatchedTo (l : Lent) (old : List ℕ) (day : ℕ) (items new : List ℕ) (index code : ℕ) : Type 0 where
-  pub answer : code ≡ batch-code-of (batch-call l old day items)
-  pub register : new ≡ batch-leaves l old day items
-  pub index_is : index ≡ index_of (batch-call l old day items)
+  pub answer : code ≡ batch_code_of (batch_call l old day items)
+  pub register : new ≡ batch_leaves l old day items
+  pub index_is : index ≡ index_of (batch_call l old day items)
 
 -- an extract: also the output
 pub record ExtractedTo (l : Lent) (reg : List ℕ) (k : Ask) (homes surveys new old out : List ℕ) (code : ℕ) : Type 0 where
-  pub answer : code ≡ code_of (extract-call l reg k homes surveys (length old))
-  pub register : new ≡ after-request (without-value (extract-call l reg k homes surveys (length old))) reg k
-  pub output : out ≡ after_write (extract-call l reg k homes surveys (length old)) old
+  pub answer : code ≡ code_of (extract_call l reg k homes surveys (length old))
+  pub register : new ≡ after_request (without_value (extract_call l reg k homes surveys (length old))) reg k
+  pub output : out ≡ after_write (extract_call l reg k homes surveys (length old)) old
 
 -- a conversion: also how many words were written, 0 where refused
 abbrev pub written_of : Result (List ℕ) → ℕ
@@ -100,7 +100,7 @@ count_of (refused m p) = 0
 
 pub record CountedTo (o : Result ℕ) (count code : ℕ) : Type 0 where
   pub answer : code ≡ code_of o
-  pub count-is : count ≡ count_of o
+  pub count_is : count ≡ count_of o
 
 -- a simplified term: also the output, and how many steps were taken and how many words written, both 0 where refused
 abbrev pub steps_of : Result Simplified → ℕ
@@ -109,22 +109,22 @@ steps_of (refused m p) = 0
 
 pub record SimplifiedTo (o : Result Simplified) (old out : List ℕ) (steps written code : ℕ) : Type 0 where
   pub answer : code ≡ code_of o
-  pub output : out ≡ after-simplify o old
-  pub steps-are : steps ≡ steps_of o
+  pub output : out ≡ after_simplify o old
+  pub steps_are : steps ≡ steps_of o
   pub written_is : written ≡ written_of (result_words o)
 
 -- a check that tells where the type stands: the first words of the workspace, none where refused
 pub record TypedTo (o : Result Term) (workspace : List ℕ) (words code : ℕ) : Type 0 where
   pub answer : code ≡ code_of o
-  pub words_are : words ≡ length (type-of o)
-  pub type : take words workspace ≡ type-of o
+  pub words_are : words ≡ length (type_of o)
+  pub type : take words workspace ≡ type_of o
 
 -- where the body of record k starts in the register
-abbrev pub body-start : List ℕ → ℕ → Result ℕ
-body-start reg k = do
-  read-call reg k
-  c ← register-content reg
-  ok (used-by (take k c.records) + record-head)
+abbrev pub body_start : List ℕ → ℕ → Result ℕ
+body_start reg k = do
+  read_call reg k
+  c ← register_content reg
+  ok (used_by (take k c.records) + record_head)
 
 abbrev pub start_of : Result ℕ → ℕ
 start_of (ok n) = n
@@ -132,8 +132,8 @@ start_of (refused m p) = 0
 
 -- a read that tells where the body stands in the register; kind, start and words are 0 where refused
 pub record ReadTo (reg : List ℕ) (k kind start words code : ℕ) : Type 0 where
-  pub answer : code ≡ code_of (read-call reg k)
-  pub kind-is : kind ≡ kind-of (read-call reg k)
-  pub start_is : start ≡ start_of (body-start reg k)
-  pub words_are : words ≡ length (body_of (read-call reg k))
-  pub body : take words (drop start reg) ≡ body_of (read-call reg k)
+  pub answer : code ≡ code_of (read_call reg k)
+  pub kind_is : kind ≡ kind_of (read_call reg k)
+  pub start_is : start ≡ start_of (body_start reg k)
+  pub words_are : words ≡ length (body_of (read_call reg k))
+  pub body : take words (drop start reg) ≡ body_of (read_call reg k)

@@ -1,15 +1,17 @@
 // "A host program in C calls check and request": extern "C" entry points on numbers and lent slices, thin over the
 // proved check and request, and over open, say, batch, read, extract, mark and return alike. include/aura0.h declares
 // them. An answer is the refusal's number times 4294967296 plus the place, 0 for success.
+#![tactic(auto)]
+
 ghost use Rattle.std.specs.Prelude.{◌≡◌, ◌+◌, ◌*◌, length};
-ghost use Rattle.register.specs.Records.{statement-of, ask-of};
-ghost use Rattle.register.specs.Calls.{check-call};
+ghost use Rattle.register.specs.Records.{statement_of, ask_of};
+ghost use Rattle.register.specs.Calls.{check_call};
 ghost use Rattle.shared_tests.specs.Shared.{lent_of};
 ghost use Rattle.editions.specs.Convert.{from_named, to_named};
-ghost use Rattle.uses.specs.Uses.{uses-call};
-ghost use Rattle.reduction.specs.Call.{simplify-call};
-ghost use Rattle.words.specs.Verdict.{verdict-answer};
-ghost use Rattle.host.specs.Answers.{number-unit, code_of, Fits, Tellable};
+ghost use Rattle.uses.specs.Uses.{uses_call};
+ghost use Rattle.reduction.specs.Call.{simplify_call};
+ghost use Rattle.words.specs.Verdict.{verdict_answer};
+ghost use Rattle.host.specs.Answers.{number_unit, code_of, Fits, Tellable};
 ghost use Rattle.host.specs.Answers.{OpenedTo, MarkedTo, ReturnedTo, SaidTo, RequestedTo, BatchedTo, ExtractedTo, ConvertedTo, CountedTo};
 ghost use Rattle.host.specs.Answers.{SimplifiedTo, TypedTo, ReadTo};
 
@@ -34,15 +36,15 @@ const NUMBER_UNIT: u64 = 4294967296;
 
 fn code(number: u32, place: usize) -> u64
     requires { Fits number place }
-    ensures { result ≡ number * number-unit + place }
+    ensures { result ≡ number * number_unit + place }
 {
     (number as u64) * NUMBER_UNIT + (place as u64)
 }
 
 // A verdict as one number.
 fn answer(verdict: Verdict) -> u64
-    requires { Tellable (verdict-answer verdict) }
-    ensures { result ≡ code_of (verdict-answer verdict) }
+    requires { Tellable (verdict_answer verdict) }
+    ensures { result ≡ code_of (verdict_answer verdict) }
 {
     match verdict {
         Verdict::Passed => 0,
@@ -101,7 +103,7 @@ pub extern "C" fn aura0_say(
     added: &mut u32,
 ) -> u64
     ensures { SaidTo (lent_of signature.now n workspace.old) register.old day
-        (statement-of principal first last proposition.now) register.new added.new result }
+        (statement_of principal first last proposition.now) register.new added.new result }
 {
     let said = say(
         signature,
@@ -144,7 +146,7 @@ pub extern "C" fn aura0_request(
     workspace: &mut [u32],
 ) -> u64
     ensures { RequestedTo (lent_of signature.now n workspace.old) register.old
-        (ask-of operation extract delivery day proof.now) register.new result }
+        (ask_of operation extract delivery day proof.now) register.new result }
 {
     let verdict = request(
         signature, n, register, day, operation, extract, delivery, proof, workspace,
@@ -201,7 +203,7 @@ pub extern "C" fn aura0_extract(
     workspace: &mut [u32],
 ) -> u64
     ensures { ExtractedTo (lent_of signature.now n workspace.old) register.old
-        (ask-of operation extract delivery day proof.now) homes.now surveys.now
+        (ask_of operation extract delivery day proof.now) homes.now surveys.now
         register.new output.old output.new result }
 {
     let verdict = extract::extract(
@@ -221,7 +223,7 @@ pub extern "C" fn aura0_check(
     term: &[u32],
     workspace: &mut [u32],
 ) -> u64
-    ensures { result ≡ code_of (check-call (lent_of signature.now n workspace.old)
+    ensures { result ≡ code_of (check_call (lent_of signature.now n workspace.old)
         register.now day term.now) }
 {
     let mut number = 0;
@@ -250,7 +252,7 @@ pub extern "C" fn aura0_check_type(
     workspace: &mut [u32],
     type_words: &mut usize,
 ) -> u64
-    ensures { TypedTo (check-call (lent_of signature.now n workspace.old)
+    ensures { TypedTo (check_call (lent_of signature.now n workspace.old)
         register.now day term.now) workspace.new type_words.new result }
 {
     let judged = judge(signature, n, register, day, term, workspace);
@@ -280,7 +282,7 @@ pub extern "C" fn aura0_simplify(
     steps: &mut usize,
     written: &mut usize,
 ) -> u64
-    ensures { SimplifiedTo (simplify-call (lent_of signature.now n workspace.old) register.now day
+    ensures { SimplifiedTo (simplify_call (lent_of signature.now n workspace.old) register.now day
         term.now budget (length output.old)) output.old output.new steps.new written.new result }
 {
     let simplified = simplify(signature, n, register, day, term, budget, output, workspace);
@@ -342,7 +344,7 @@ pub extern "C" fn aura0_from_named(term: &[u32], output: &mut [u32], written: &m
 // Uses: `count` is how many variables numbered `from` or more stand free, 0 where refused.
 #[unsafe(no_mangle)]
 pub extern "C" fn aura0_uses(term: &[u32], from: u32, count: &mut usize) -> u64
-    ensures { CountedTo (uses-call from term.now) count.new result }
+    ensures { CountedTo (uses_call from term.now) count.new result }
 {
     let counted = uses(term, from);
     match counted {

@@ -10,38 +10,38 @@ use lib.ListN.{length, take, drop, get_or, length-append, length-drop, drop_of_l
 use lib.Seq.{drop-drop, get_or-drop, take_at, drop_at, length-take-le}
 use borrow.Author.Tests.{le-leb, lt-leb, leb-true}
 use Rattle.logic.proofs.Basics.{clash}
-use Rattle.register.specs.Records.{Ask, ask-of, item-head, item-length-word}
-use Rattle.register.specs.Batch.{most-items, NextItem, no_item, cut-item, whole_item, next-item, item-before, items, item-words}
-use Rattle.register.proofs.Batch.{next-item-right, next-item-ended, items-step}
-use Rattle.item_list.specs.Items.{item-answer, item-end, ask-at}
+use Rattle.register.specs.Records.{Ask, ask_of, item_head, item_length_word}
+use Rattle.register.specs.Batch.{most_items, NextItem, no_item, cut_item, whole_item, next_item, item_before, items, item_words}
+use Rattle.register.proofs.Batch.{next_item_right, next_item_ended, items_step}
+use Rattle.item_list.specs.Items.{item_answer, item_end, ask_at}
 use Rattle.item_list.specs.declared.Item.{Item}
 use Rattle.item_list.specs.declared.Item.TheVariants.{NotWhole, Whole}
 
 -- ---- the item in front of some words that begin at a place
 
 module _ (day at : ℕ) where
-  front-short : (xs : List ℕ) → length xs < item-head → none ≡ item-end at (next-item day xs)
-  front-short [] g = refl
-  front-short (i ∷ []) g = refl
-  front-short (i ∷ v ∷ []) g = refl
-  front-short (i ∷ v ∷ u ∷ []) g = refl
-  front-short (i ∷ v ∷ u ∷ n ∷ xs) g = absurd (omega arith)
+  front_short : (xs : List ℕ) → length xs < item_head → none ≡ item_end at (next_item day xs)
+  front_short [] g = refl
+  front_short (i ∷ []) g = refl
+  front_short (i ∷ v ∷ []) g = refl
+  front_short (i ∷ v ∷ u ∷ []) g = refl
+  front_short (i ∷ v ∷ u ∷ n ∷ xs) g = absurd (omega arith)
 
   -- it has its head words
-  front_long : (xs : List ℕ) → item-head ≤ length xs → (b : Bool) → leb (get_or xs item-length-word 0) (length xs - item-head) ≡ b →
-      cond b (some (at + item-head + get_or xs item-length-word 0)) none ≡ item-end at (next-item day xs)
+  front_long : (xs : List ℕ) → item_head ≤ length xs → (b : Bool) → leb (get_or xs item_length_word 0) (length xs - item_head) ≡ b →
+      cond b (some (at + item_head + get_or xs item_length_word 0)) none ≡ item_end at (next_item day xs)
   front_long [] h b e = absurd (omega arith)
   front_long (i ∷ []) h b e = absurd (omega arith)
   front_long (i ∷ v ∷ []) h b e = absurd (omega arith)
   front_long (i ∷ v ∷ u ∷ []) h b e = absurd (omega arith)
   front_long (i ∷ v ∷ u ∷ n ∷ xs) h b e =
-      let s : length (i ∷ v ∷ u ∷ n ∷ xs) - item-head ≡ length xs = omega arith in
+      let s : length (i ∷ v ∷ u ∷ n ∷ xs) - item_head ≡ length xs = omega arith in
       let f : leb n (length xs) ≡ b = ap (leb n) (sym s) ∙ e in
-      told b f ∙ ap (λ (b : Bool). item-end at (cond b (whole_item (ask-of i v u day (take n xs)) (drop n xs)) cut-item)) (sym f)
+      told b f ∙ ap (λ (b : Bool). item_end at (cond b (whole_item (ask_of i v u day (take n xs)) (drop n xs)) cut_item)) (sym f)
     where
       told : (b : Bool) → leb n (length xs) ≡ b →
-          cond b (some (at + item-head + n)) none ≡ item-end at (cond b (whole_item (ask-of i v u day (take n xs)) (drop n xs)) cut-item)
-      told true f = ap (λ (m : ℕ). some (at + item-head + m)) (sym (length-take-le n xs (leb-true n (length xs) f)))
+          cond b (some (at + item_head + n)) none ≡ item_end at (cond b (whole_item (ask_of i v u day (take n xs)) (drop n xs)) cut_item)
+      told true f = ap (λ (m : ℕ). some (at + item_head + m)) (sym (length-take-le n xs (leb-true n (length xs) f)))
       told false f = refl
 
 module _ (day : ℕ) (ws : List ℕ) (at : ℕ) (within : at ≤ length ws) where
@@ -49,56 +49,56 @@ module _ (day : ℕ) (ws : List ℕ) (at : ℕ) (within : at ≤ length ws) wher
   left : length (drop at ws) ≡ length ws - at
   left = length-drop at ws
 
-  length-word : get_or (drop at ws) item-length-word 0 ≡ get_or ws (at + item-length-word) 0
-  length-word = get_or-drop at ws item-length-word 0
+  length_word : get_or (drop at ws) item_length_word 0 ≡ get_or ws (at + item_length_word) 0
+  length_word = get_or-drop at ws item_length_word 0
 
-  pub head-cut-at : length ws - at < item-head → none ≡ item-end at (next-item day (drop at ws))
-  head-cut-at h = front-short day at (drop at ws) (omega (arith, h, left))
+  pub head_cut_at : length ws - at < item_head → none ≡ item_end at (next_item day (drop at ws))
+  head_cut_at h = front_short day at (drop at ws) (omega (arith, h, left))
 
-  module _ (h : item-head ≤ length ws - at) where
-    abbrev long : item-head ≤ length (drop at ws)
+  module _ (h : item_head ≤ length ws - at) where
+    abbrev long : item_head ≤ length (drop at ws)
     long = omega (arith, h, left)
 
-    pub proof-cut-at : length ws - at - item-head < get_or ws (at + item-length-word) 0 → none ≡ item-end at (next-item day (drop at ws))
-    proof-cut-at g = front_long day at (drop at ws) long false
-        (lt-leb (get_or (drop at ws) item-length-word 0) (length (drop at ws) - item-head) (omega (arith, g, left, length-word)))
+    pub proof_cut_at : length ws - at - item_head < get_or ws (at + item_length_word) 0 → none ≡ item_end at (next_item day (drop at ws))
+    proof_cut_at g = front_long day at (drop at ws) long false
+        (lt-leb (get_or (drop at ws) item_length_word 0) (length (drop at ws) - item_head) (omega (arith, g, left, length_word)))
 
-    pub item-whole-at : get_or ws (at + item-length-word) 0 ≤ length ws - at - item-head →
-        some (at + item-head + get_or ws (at + item-length-word) 0) ≡ item-end at (next-item day (drop at ws))
-    item-whole-at g =
-        ap (λ (m : ℕ). some (at + item-head + m)) (sym length-word)
+    pub item_whole_at : get_or ws (at + item_length_word) 0 ≤ length ws - at - item_head →
+        some (at + item_head + get_or ws (at + item_length_word) 0) ≡ item_end at (next_item day (drop at ws))
+    item_whole_at g =
+        ap (λ (m : ℕ). some (at + item_head + m)) (sym length_word)
         ∙ front_long day at (drop at ws) long true
-        (le-leb (get_or (drop at ws) item-length-word 0) (length (drop at ws) - item-head) (omega (arith, g, left, length-word)))
+        (le-leb (get_or (drop at ws) item_length_word 0) (length (drop at ws) - item_head) (omega (arith, g, left, length_word)))
 
 -- ---- what the code found there
 
 -- a whole item that ends at `end`
 pub record WholeAt (day : ℕ) (ws : List ℕ) (at end : ℕ) : Type 0 where
-  pub head : at + item-head ≤ end
+  pub head : at + item_head ≤ end
   pub within : end ≤ length ws
-  pub words : drop at ws ≡ item-words (ask-at day ws at end) ++ drop end ws
-  pub is : items day (drop at ws) ≡ some (ask-at day ws at end) ∷ items day (drop end ws)
+  pub words : drop at ws ≡ item_words (ask_at day ws at end) ++ drop end ws
+  pub is : items day (drop at ws) ≡ some (ask_at day ws at end) ∷ items day (drop end ws)
 
-module _ (day : ℕ) (ws : List ℕ) (at : ℕ) (r : Item) (e : item-answer r ≡ item-end at (next-item day (drop at ws))) where
+module _ (day : ℕ) (ws : List ℕ) (at : ℕ) (r : Item) (e : item_answer r ≡ item_end at (next_item day (drop at ws))) where
   -- none, though words are left: it is cut short
-  pub cut-there : at < length ws → r ≡ NotWhole → items day (drop at ws) ≡ none ∷ []
-  cut-there h q = items-step day (drop at ws) ∙ go (next-item day (drop at ws)) refl (sym (ap item-answer q) ∙ e)
+  pub cut_there : at < length ws → r ≡ NotWhole → items day (drop at ws) ≡ none ∷ []
+  cut_there h q = items_step day (drop at ws) ∙ go (next_item day (drop at ws)) refl (sym (ap item_answer q) ∙ e)
     where
-      go : (x : NextItem) → next-item day (drop at ws) ≡ x → none ≡ item-end at x → item-before (items day) x ≡ none ∷ []
-      go no_item g f = absurd (omega (arith, h, length-drop at ws, ap length (next-item-ended day (drop at ws) g)))
-      go cut-item g f = refl
+      go : (x : NextItem) → next_item day (drop at ws) ≡ x → none ≡ item_end at x → item_before (items day) x ≡ none ∷ []
+      go no_item g f = absurd (omega (arith, h, length-drop at ws, ap length (next_item_ended day (drop at ws) g)))
+      go cut_item g f = refl
       go (whole_item k rest) g f = absurd (clash (cc))
 
-  pub whole-there : (end : ℕ) → r ≡ Whole end → WholeAt day ws at end
-  whole-there end q = go (next-item day (drop at ws)) refl (sym (ap item-answer q) ∙ e)
+  pub whole_there : (end : ℕ) → r ≡ Whole end → WholeAt day ws at end
+  whole_there end q = go (next_item day (drop at ws)) refl (sym (ap item_answer q) ∙ e)
     where
-      found : (k : Ask) (rest : List ℕ) → next-item day (drop at ws) ≡ whole_item k rest → end ≡ at + item-head + length k.proof → WholeAt day ws at end
+      found : (k : Ask) (rest : List ℕ) → next_item day (drop at ws) ≡ whole_item k rest → end ≡ at + item_head + length k.proof → WholeAt day ws at end
       found k rest f n =
-          let (w, d) = (next-item-right day (drop at ws) k rest).0 f in
-          let l : length (drop at ws) ≡ item-head + length k.proof + length rest = ap length w ∙ simp length-append (omega arith) in
-          let p : end - (at + item-head) ≡ length k.proof = omega arith in
-          let m : drop (at + item-head) ws ≡ k.proof ++ rest = sym (drop-drop item-head at ws) ∙ ap (drop item-head) w in
-          let o : ask-at day ws at end ≡ k = λ j. record {
+          let (w, d) = (next_item_right day (drop at ws) k rest).0 f in
+          let l : length (drop at ws) ≡ item_head + length k.proof + length rest = ap length w ∙ simp length-append (omega arith) in
+          let p : end - (at + item_head) ≡ length k.proof = omega arith in
+          let m : drop (at + item_head) ws ≡ k.proof ++ rest = sym (drop-drop item_head at ws) ∙ ap (drop item_head) w in
+          let o : ask_at day ws at end ≡ k = λ j. record {
             operation = (sym (get_or-drop at ws 0 0) ∙ ap (λ (xs : List ℕ). get_or xs 0 0) w) j;
             extract = (sym (get_or-drop at ws 1 0) ∙ ap (λ (xs : List ℕ). get_or xs 1 0) w) j;
             delivery = (sym (get_or-drop at ws 2 0) ∙ ap (λ (xs : List ℕ). get_or xs 2 0) w) j;
@@ -107,23 +107,23 @@ module _ (day : ℕ) (ws : List ℕ) (at : ℕ) (r : Item) (e : item-answer r �
           } in
           let t : rest ≡ drop end ws =
           sym (drop_at k.proof rest (length k.proof) refl) ∙ sym (ap (drop (length k.proof)) m)
-          ∙ drop-drop (length k.proof) (at + item-head) ws ∙ ap (λ (i : ℕ). drop i ws) (sym n) in
+          ∙ drop-drop (length k.proof) (at + item_head) ws ∙ ap (λ (i : ℕ). drop i ws) (sym n) in
           record {
             head = omega arith;
             within = omega (arith, l, length-drop at ws);
-            words = w ∙ ap₂ (λ (x : Ask) (xs : List ℕ). item-words x ++ xs) (sym o) t;
-            is = items-step day (drop at ws) ∙ ap (item-before (items day)) f
+            words = w ∙ ap₂ (λ (x : Ask) (xs : List ℕ). item_words x ++ xs) (sym o) t;
+            is = items_step day (drop at ws) ∙ ap (item_before (items day)) f
                 ∙ ap₂ (λ (x : Ask) (xs : List ℕ). some x ∷ items day xs) (sym o) t;
           }
 
-      go : (x : NextItem) → next-item day (drop at ws) ≡ x → some end ≡ item-end at x → WholeAt day ws at end
+      go : (x : NextItem) → next_item day (drop at ws) ≡ x → some end ≡ item_end at x → WholeAt day ws at end
       go no_item f g = absurd (clash (cc))
-      go cut-item f g = absurd (clash (cc))
+      go cut_item f g = absurd (clash (cc))
       go (whole_item k rest) f g = found k rest f (cc)
 
 -- no item is left at the end of a list
-pub no-items-left : (day : ℕ) (ws : List ℕ) (at : ℕ) → length ws ≤ at → items day (drop at ws) ≡ []
-no-items-left day ws at g = ap (items day) (drop_of_length-le ws g) ∙ items-step day []
+pub no_items_left : (day : ℕ) (ws : List ℕ) (at : ℕ) → length ws ≤ at → items day (drop at ws) ≡ []
+no_items_left day ws at g = ap (items day) (drop_of_length-le ws g) ∙ items_step day []
 
 -- ---- how many there are
 
@@ -138,27 +138,27 @@ pub counted_next : {ws : List ℕ} {at end count : ℕ} → Counted ws at count 
 counted_next h w = record { sum = λ day. omega (arith, h.sum day, ap length (w day).is) }
 
 -- words are left, so an item is
-some-items : (day : ℕ) (ws : List ℕ) → 1 ≤ length ws → 1 ≤ length (items day ws)
-some-items day ws h = go (next-item day ws) refl (items-step day ws)
+some_items : (day : ℕ) (ws : List ℕ) → 1 ≤ length ws → 1 ≤ length (items day ws)
+some_items day ws h = go (next_item day ws) refl (items_step day ws)
   where
-    go : (x : NextItem) → next-item day ws ≡ x → items day ws ≡ item-before (items day) x → 1 ≤ length (items day ws)
-    go no_item e f = absurd (omega (arith, h, ap length (next-item-ended day ws e)))
-    go cut-item e f = omega (arith, ap length f)
+    go : (x : NextItem) → next_item day ws ≡ x → items day ws ≡ item_before (items day) x → 1 ≤ length (items day ws)
+    go no_item e f = absurd (omega (arith, h, ap length (next_item_ended day ws e)))
+    go cut_item e f = omega (arith, ap length f)
     go (whole_item k rest) e f = omega (arith, ap length f)
 
-pub too_many : {ws : List ℕ} {at count : ℕ} → Counted ws at count → at < length ws → most-items ≤ count → (day : ℕ) →
-    false ≡ leb (length (items day ws)) most-items
+pub too_many : {ws : List ℕ} {at count : ℕ} → Counted ws at count → at < length ws → most_items ≤ count → (day : ℕ) →
+    false ≡ leb (length (items day ws)) most_items
 too_many {ws} {at} h l n day =
-    let s = some-items day (drop at ws) (omega (arith, l, length-drop at ws)) in
-    sym (lt-leb (length (items day ws)) most-items (omega (arith, h.sum day, s, n)))
+    let s = some_items day (drop at ws) (omega (arith, l, length-drop at ws)) in
+    sym (lt-leb (length (items day ws)) most_items (omega (arith, h.sum day, s, n)))
 
 -- the last is cut short
-pub last-counted : {ws : List ℕ} {at count : ℕ} → Counted ws at count → at < length ws → count < most-items → (r : Item) →
-    ((day : ℕ) → item-answer r ≡ item-end at (next-item day (drop at ws))) → r ≡ NotWhole → (day : ℕ) → true ≡ leb (length (items day ws)) most-items
-last-counted {ws} {at} {count} h g l r e q day =
-    sym (le-leb (length (items day ws)) most-items (omega (arith, h.sum day, l, ap length (cut-there day ws at r (e day) g q))))
+pub last_counted : {ws : List ℕ} {at count : ℕ} → Counted ws at count → at < length ws → count < most_items → (r : Item) →
+    ((day : ℕ) → item_answer r ≡ item_end at (next_item day (drop at ws))) → r ≡ NotWhole → (day : ℕ) → true ≡ leb (length (items day ws)) most_items
+last_counted {ws} {at} {count} h g l r e q day =
+    sym (le-leb (length (items day ws)) most_items (omega (arith, h.sum day, l, ap length (cut_there day ws at r (e day) g q))))
 
-pub all-counted : {ws : List ℕ} {at count : ℕ} → Counted ws at count → count ≤ most-items → length ws ≤ at → (day : ℕ) →
-    true ≡ leb (length (items day ws)) most-items
-all-counted {ws} {at} h l g day =
-    sym (le-leb (length (items day ws)) most-items (omega (arith, h.sum day, l, ap length (no-items-left day ws at g))))
+pub all_counted : {ws : List ℕ} {at count : ℕ} → Counted ws at count → count ≤ most_items → length ws ≤ at → (day : ℕ) →
+    true ≡ leb (length (items day ws)) most_items
+all_counted {ws} {at} h l g day =
+    sym (le-leb (length (items day ws)) most_items (omega (arith, h.sum day, l, ap length (no_items_left day ws at g))))

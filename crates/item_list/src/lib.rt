@@ -1,7 +1,9 @@
 // The items of a batch's list, one after another: operation, v, u, length, proof.
+#![tactic(auto)]
+
 ghost use Rattle.std.specs.Prelude.{◌≡◌, ℕ, ◌≤◌, leb, length, drop};
-ghost use Rattle.register.specs.Batch.{most-items, items as items_of, next-item};
-ghost use Rattle.item_list.specs.Items.{item-answer, item-end};
+ghost use Rattle.register.specs.Batch.{most_items, items as items_of, next_item};
+ghost use Rattle.item_list.specs.Items.{item_answer, item_end};
 
 use records::format::{ITEM_HEAD, ITEM_LENGTH};
 
@@ -18,7 +20,7 @@ pub enum Item {
 // The item at a place. A length word past the list's end cuts its item short, whatever it says.
 pub fn item_at(items: &[u32], at: usize) -> Item
     requires { at ≤ length items.now }
-    ensures { (day : ℕ) → item-answer result ≡ item-end at (next-item day (drop at items.now)) }
+    ensures { (day : ℕ) → item_answer result ≡ item_end at (next_item day (drop at items.now)) }
 {
     let left = items.len() - at;
     if left < ITEM_HEAD {
@@ -35,7 +37,7 @@ pub fn item_at(items: &[u32], at: usize) -> Item
 
 // Whether the list has at most 16 items; one cut short counts.
 pub fn few(items: &[u32]) -> bool
-    ensures { (day : ℕ) → result ≡ leb (length (items_of day items.now)) most-items }
+    ensures { (day : ℕ) → result ≡ leb (length (items_of day items.now)) most_items }
 {
     let mut at = 0;
     let mut count = 0;

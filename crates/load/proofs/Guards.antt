@@ -2,42 +2,42 @@
 use Rattle.std.proofs.Common.{refl}
 use native.Mathlib.Decide.{ℕ_discrete}
 use Rattle.logic.specs.Term.{size, encode}
-use Rattle.logic.specs.Move.{shift, fill-at, occurs}
-use Rattle.logic.specs.Reading.{read, too-deep, first-miss}
-use Rattle.logic.specs.Infer.{infer, same-term, conclusion}
+use Rattle.logic.specs.Move.{shift, fill_at, occurs}
+use Rattle.logic.specs.Reading.{read, too_deep, first_miss}
+use Rattle.logic.specs.Infer.{infer, same_term, conclusion}
 use Rattle.logic.specs.SignatureList.{constants, operations}
 use Rattle.logic.specs.Worked.{listed}
-use Rattle.register.specs.Records.{records, words_of, statements-from, some_of, same-words}
+use Rattle.register.specs.Records.{records, words_of, statements_from, some_of, same_words}
 use Rattle.register.specs.Calls.{opening}
 use Rattle.register.specs.History.{answers}
-use Rattle.load.specs.Load.{load-words, load-call}
-use Rattle.load.specs.Passes.{load-calls}
+use Rattle.load.specs.Load.{load_words, load_call}
+use Rattle.load.specs.Passes.{load_calls}
 use Rattle.load.specs.Guards.{LoadGuards}
 
-pub load-guards : LoadGuards
-unfolding infer same-term conclusion read too-deep first-miss shift fill-at occurs size encode ℕ_discrete constants operations records
-    words_of statements-from some_of same-words opening answers listed load-words load-call load-calls
-load-guards = record {
+pub load_guards : LoadGuards
+unfolding infer same_term conclusion read too_deep first_miss shift fill_at occurs size encode ℕ_discrete constants operations records
+    words_of statements_from some_of same_words opening answers listed load_words load_call load_calls
+load_guards = record {
   next = λ s. refl;
-  next-of-1 = refl;
-  next-of-last = refl;
-  from-0 = refl;
-  then-from-0 = refl;
-  from-1 = refl;
-  then-from-1 = refl;
+  next_of_1 = refl;
+  next_of_last = refl;
+  from_0 = refl;
+  then_from_0 = refl;
+  from_1 = refl;
+  then_from_1 = refl;
   from_last = refl;
-  principal-0 = refl;
-  extract-0 = refl;
-  delivery-0 = refl;
+  principal_0 = refl;
+  extract_0 = refl;
+  delivery_0 = refl;
   words_are = refl;
-  words-each = refl;
-  rule-is = refl;
-  count-0 = refl;
-  count-257 = refl;
+  words_each = refl;
+  rule_is = refl;
+  count_0 = refl;
+  count_257 = refl;
   too_short = refl;
   fits = refl;
-  most-too-short = refl;
+  most_too_short = refl;
   not_written = refl;
   suffices = refl;
-  one-short = refl;
+  one_short = refl;
 }

@@ -1,8 +1,10 @@
 // A load of trial requests, the same for all who have the seed.
+#![tactic(auto)]
+
 ghost use Rattle.std.specs.Prelude.{◌≡◌, ◌*◌, ◌%◌, length};
 ghost use Rattle.words.specs.Counted.{WrittenAs};
 ghost use Rattle.words.specs.Place.{written_at};
-ghost use Rattle.load.specs.Load.{modulus, next-state, principal-from, request-words, load-call};
+ghost use Rattle.load.specs.Load.{modulus, next_state, principal_from, request_words, load_call};
 ghost use Rattle.load.specs.Answers.{RequestFits};
 
 use forms::{CONSENT_WORDS, PROOF_WORDS, proof_words};
@@ -45,14 +47,14 @@ fn wrapping_mul(a: u32, b: u32) -> u32
 
 // "state becomes state times 1664525 plus 1013904223": a wrapping multiply helper and the supplied wrapping add.
 fn next_state(state: u32) -> u32
-    ensures { result ≡ next-state state }
+    ensures { result ≡ next_state state }
 {
     wrapping_add_u32(wrapping_mul(state, MULTIPLIER), INCREMENT)
 }
 
 // "replacing principal 0 by 1".
 fn principal_from(drawn: u32) -> u32
-    ensures { result ≡ principal-from drawn }
+    ensures { result ≡ principal_from drawn }
 {
     if drawn == 0 {
         return 1;
@@ -63,7 +65,7 @@ fn principal_from(drawn: u32) -> u32
 // Writes the words of a request at a place.
 fn write_request(extract: u32, principal: u32, delivery: u32, output: &mut [u32], place: usize)
     requires { RequestFits extract principal output.old place }
-    ensures { output.new ≡ written_at output.old place (request-words extract principal delivery) }
+    ensures { output.new ≡ written_at output.old place (request_words extract principal delivery) }
 {
     let front = [extract, principal, delivery, APP, C2, TEXT_0 + extract];
     let proof = proof_words(OPERATION, CONSTANT, extract, principal);
@@ -73,7 +75,7 @@ fn write_request(extract: u32, principal: u32, delivery: u32, output: &mut [u32]
 
 // 29, then 25, then the words of so many requests.
 pub fn load(seed: u32, count: u32, output: &mut [u32]) -> Counted
-    ensures { WrittenAs (load-call seed count (length output.old)) output.old output.new result }
+    ensures { WrittenAs (load_call seed count (length output.old)) output.old output.new result }
 {
     let words = REQUEST_WORDS * (count as usize);
     if count < 1 || MOST_REQUESTS < count {

@@ -2,15 +2,15 @@
 use mathlib.Core.Path.{refl}
 use native.Mathlib.Decide.{ℕ_discrete}
 use Rattle.logic.specs.Term.{size, encode}
-use Rattle.logic.specs.Move.{shift, fill-at, occurs}
-use Rattle.logic.specs.Reading.{read, too-deep, first-miss}
-use Rattle.logic.specs.Infer.{infer, same-term, conclusion}
+use Rattle.logic.specs.Move.{shift, fill_at, occurs}
+use Rattle.logic.specs.Reading.{read, too_deep, first_miss}
+use Rattle.logic.specs.Infer.{infer, same_term, conclusion}
 use Rattle.logic.specs.SignatureList.{constants}
 use Rattle.logic.specs.Worked.{listed}
-use Rattle.logic.specs.Sentences.{longer-proof, properties, Sentences}
+use Rattle.logic.specs.Sentences.{longer_proof, properties, Sentences}
 
 pub sentences : Sentences
-unfolding infer same-term conclusion read too-deep first-miss shift fill-at occurs size encode ℕ_discrete constants listed longer-proof properties
+unfolding infer same_term conclusion read too_deep first_miss shift fill_at occurs size encode ℕ_discrete constants listed longer_proof properties
 sentences = record {
   prop = refl;
   type = refl;
@@ -21,56 +21,56 @@ sentences = record {
   variable = refl;
   constant = refl;
   says = refl;
-  says-by-string = refl;
-  says-string = refl;
-  says-kind = refl;
-  pi-prop = refl;
-  pi-kind = refl;
-  pi-over-proofs = refl;
-  pi-over-props = refl;
-  pi-over-properties = refl;
-  pi-over-properties-kind = refl;
-  pi-over-types = refl;
-  pi-over-string = refl;
-  pi-of-type = refl;
+  says_by_string = refl;
+  says_string = refl;
+  says_kind = refl;
+  pi_prop = refl;
+  pi_kind = refl;
+  pi_over_proofs = refl;
+  pi_over_props = refl;
+  pi_over_properties = refl;
+  pi_over_properties_kind = refl;
+  pi_over_types = refl;
+  pi_over_string = refl;
+  pi_of_type = refl;
   lam = refl;
-  lam-over-properties = refl;
-  lam-over-types = refl;
-  lam-of-prop = refl;
-  lam-of-property = refl;
+  lam_over_properties = refl;
+  lam_over_types = refl;
+  lam_of_prop = refl;
+  lam_of_property = refl;
   app = refl;
-  app-raised = refl;
-  app-of-string = refl;
-  app-of-said = refl;
-  app-of-sort = refl;
-  app-to-principal = refl;
-  app-to-prop = refl;
+  app_raised = refl;
+  app_of_string = refl;
+  app_of_said = refl;
+  app_of_sort = refl;
+  app_to_principal = refl;
+  app_to_prop = refl;
   signed = refl;
-  sign-string = refl;
-  sign-open = refl;
+  sign_string = refl;
+  sign_open = refl;
   ret = refl;
-  ret-by-string = refl;
-  ret-string = refl;
+  ret_by_string = refl;
+  ret_string = refl;
   bind = refl;
-  bind-lowered = refl;
-  bind-of-string = refl;
-  bind-to-string = refl;
-  bind-to-function = refl;
-  bind-to-sort = refl;
-  bind-by-other = refl;
-  bind-escape = refl;
-  bind-escape-by-other = refl;
-  long-words = refl;
-  long-node = refl;
-  long-node-signed = refl;
-  long-node-said = refl;
-  long-node-constant = refl;
-  constant-before = refl;
-  constant-itself = refl;
-  constant-behind = refl;
-  missed-in-domain = refl;
-  missed-in-proposition = refl;
-  missed-in-principal = refl;
+  bind_lowered = refl;
+  bind_of_string = refl;
+  bind_to_string = refl;
+  bind_to_function = refl;
+  bind_to_sort = refl;
+  bind_by_other = refl;
+  bind_escape = refl;
+  bind_escape_by_other = refl;
+  long_words = refl;
+  long_node = refl;
+  long_node_signed = refl;
+  long_node_said = refl;
+  long_node_constant = refl;
+  constant_before = refl;
+  constant_itself = refl;
+  constant_behind = refl;
+  missed_in_domain = refl;
+  missed_in_proposition = refl;
+  missed_in_principal = refl;
   missed_first = refl;
-  none-missed = refl;
+  none_missed = refl;
 }

@@ -1,8 +1,8 @@
 // The words of the format: a word's tag and payload, and what it begins. No other code has a tag's number.
 ghost use Rattle.std.specs.Prelude.{◌≡◌};
-ghost use Rattle.logic.specs.Term.{tag_of, payload-of};
-ghost use Rattle.logic.specs.Reading.{word-shape};
-ghost use Rattle.logic.specs.Kind.{shape-kind, shape-children, shape-binds};
+ghost use Rattle.logic.specs.Term.{tag_of, payload_of};
+ghost use Rattle.logic.specs.Reading.{word_shape};
+ghost use Rattle.logic.specs.Kind.{shape_kind, shape_children, shape_binds};
 
 // A word is a tag times this, and a payload below it.
 pub const PAYLOADS: u32 = 16777216;
@@ -119,14 +119,14 @@ pub fn tag_of(word: u32) -> u32
 }
 
 pub fn payload_of(word: u32) -> u32
-    ensures { result ≡ payload-of word }
+    ensures { result ≡ payload_of word }
 {
     word % PAYLOADS
 }
 
 // What a word begins.
 pub fn kind(word: u32) -> u32
-    ensures { result ≡ shape-kind (word-shape word) }
+    ensures { result ≡ shape_kind (word_shape word) }
 {
     let tag = tag_of(word);
     if tag <= TAG_BIND {
@@ -140,7 +140,7 @@ pub fn kind(word: u32) -> u32
 
 // The number of children that a word has, and one more than it can have for no term.
 pub fn children(word: u32) -> u32
-    ensures { result ≡ shape-children (word-shape word) }
+    ensures { result ≡ shape_children (word_shape word) }
 {
     let tag = tag_of(word);
     if tag <= TAG_BIND {
@@ -154,7 +154,7 @@ pub fn children(word: u32) -> u32
 
 // Whether a word's second child stands under a binder.
 pub fn binds(word: u32) -> bool
-    ensures { result ≡ shape-binds (word-shape word) }
+    ensures { result ≡ shape_binds (word_shape word) }
 {
     kind(word) == BINDER
 }

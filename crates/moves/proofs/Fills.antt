@@ -9,26 +9,26 @@ use lib.ListN.{length, take, drop, set, get_or, length-set}
 use lib.Dec.{leb}
 use lib.IntN.{ℤ, pos}
 use borrow.Author.Tests.{le-leb, lt-leb, leb-true, leb-false}
-use Rattle.logic.specs.Tags.{tag-variable}
-use Rattle.logic.specs.Term.{Atom, Op, Term, atom, var, sign, node, payload-of, word, op-word, encode, size, binds, under}
-use Rattle.logic.specs.Move.{shift, raise, fill-at}
-use Rattle.logic.specs.Kind.{kind-node, op-kind}
-use Rattle.logic.proofs.Words.{encode-size, size-pos}
-use Rattle.logic.proofs.Fill.{fill-below, fill_here, fill-above}
+use Rattle.logic.specs.Tags.{tag_variable}
+use Rattle.logic.specs.Term.{Atom, Op, Term, atom, var, sign, node, payload_of, word, op_word, encode, size, binds, under}
+use Rattle.logic.specs.Move.{shift, raise, fill_at}
+use Rattle.logic.specs.Kind.{kind_node, op_kind}
+use Rattle.logic.proofs.Words.{encode_size, size_pos}
+use Rattle.logic.proofs.Fill.{fill_below, fill_here, fill_above}
 use Rattle.words.specs.Place.{At, Is, written_at}
-use Rattle.words.proofs.Lists.{written-set, written-node, length-written}
-use Rattle.words.proofs.Places.{at_head, part-is, at_left, at_right, size_is, at-payload, deeper}
+use Rattle.words.proofs.Lists.{written_set, written_node, length_written}
+use Rattle.words.proofs.Places.{at_head, part_is, at_left, at_right, size_is, at_payload, deeper}
 use Rattle.moves.specs.Shift.{Shifted}
 use Rattle.moves.specs.declared.shift.Shift.{Shift}
-use Rattle.moves.specs.Fill.{filled-answer, FilledTo}
+use Rattle.moves.specs.Fill.{filled_answer, FilledTo}
 use Rattle.moves.specs.declared.fill.Filled.{Filled}
 use Rattle.moves.specs.declared.fill.Filled.TheVariants.{Done, Over}
-use Rattle.moves.proofs.Cases.{cond-given, cond-not-given}
-use Rattle.moves.proofs.Shifts.{size-shift}
+use Rattle.moves.proofs.Cases.{cond_given, cond_not_given}
+use Rattle.moves.proofs.Shifts.{size_shift}
 
 -- r and new are what filling answers and writes, for any term and filler that stand there
 abbrev pub Fills : List ℕ → ℕ → ℕ → List ℕ → List ℕ → ℕ → List ℕ → Filled → Type 0
-Fills ws at c fs old to new r = (t e : Term) → At ws at t → Is fs e → FilledTo t (fill-at c e t) at old to new r
+Fills ws at c fs old to new r = (t e : Term) → At ws at t → Is fs e → FilledTo t (fill_at c e t) at old to new r
 
 -- a law of a term and a filler, the filler first
 pub each : {ws fs : List ℕ} {at : ℕ} {F : Term → Term → Type 0}
@@ -53,91 +53,91 @@ module _ (t u : Term) (at : ℕ) (old : List ℕ) (to : ℕ) (new : List ℕ) wh
 
 -- a term of at least one word does not fit
 pub none_over : (t u : Term) (at : ℕ) (old : List ℕ) (to : ℕ) → length old ≤ to → FilledTo t u at old to old Over
-none_over t u at old to l = let p = size-pos u in over t u at old to old (omega arith)
+none_over t u at old to l = let p = size_pos u in over t u at old to old (omega arith)
 
 pub record Was (t u : Term) (at : ℕ) (len to next end : ℕ) : Type 0 where
-  pub next-is : next ≡ at + size t
+  pub next_is : next ≡ at + size t
   pub end_is : end ≡ to + size u
   pub fits : end ≤ len
 
 -- what an answer tells
-module _ (t u : Term) (at to len : ℕ) {r : Filled} (e : filled-answer r ≡ within (leb (to + size u) len) (at + size t) (to + size u)) where
-  pub done-is : (next end : ℕ) → r ≡ Done next end → Was t u at len to next end
-  done-is next end q =
-      let (b, i) = cond-given (leb (to + size u) len) (at + size t, to + size u) (ap filled-answer (sym q) ∙ e) in
+module _ (t u : Term) (at to len : ℕ) {r : Filled} (e : filled_answer r ≡ within (leb (to + size u) len) (at + size t) (to + size u)) where
+  pub done_is : (next end : ℕ) → r ≡ Done next end → Was t u at len to next end
+  done_is next end q =
+      let (b, i) = cond_given (leb (to + size u) len) (at + size t, to + size u) (ap filled_answer (sym q) ∙ e) in
       let x : end ≡ to + size u = ap (λ (y : ℕ × ℕ). y.1) i in
-      record { next-is = ap (λ (y : ℕ × ℕ). y.0) i; end_is = x; fits = omega (arith, leb-true (to + size u) len b) }
+      record { next_is = ap (λ (y : ℕ × ℕ). y.0) i; end_is = x; fits = omega (arith, leb-true (to + size u) len b) }
 
-  pub over-is : r ≡ Over → len < to + size u
-  over-is q = leb-false (to + size u) len (cond-not-given (leb (to + size u) len) (at + size t, to + size u) (ap filled-answer (sym q) ∙ e))
+  pub over_is : r ≡ Over → len < to + size u
+  over_is q = leb-false (to + size u) len (cond_not_given (leb (to + size u) len) (at + size t, to + size u) (ap filled_answer (sym q) ∙ e))
 
 -- ---- a variable
 
 -- n is the number that was found of the variable m
-module _ (ws fs : List ℕ) (at c : ℕ) (old : List ℕ) (to n : ℕ) (l : to ≤ length old) (j : n ≡ payload-of (get_or ws at 0))
+module _ (ws fs : List ℕ) (at c : ℕ) (old : List ℕ) (to n : ℕ) (l : to ≤ length old) (j : n ≡ payload_of (get_or ws at 0))
     (m : ℕ) (e : Term) (h : At ws at (var m)) (i : Is fs e) where
   number : n ≡ m
-  number = j ∙ at-payload ws at m h
+  number = j ∙ at_payload ws at m h
 
   -- the filler is raised, and has as many words
-  raised-words : size (raise c e) ≡ length fs
-  raised-words = size-shift 0 (pos c) e ∙ sym (size_is fs e i)
+  raised_words : size (raise c e) ≡ length fs
+  raised_words = size_shift 0 (pos c) e ∙ sym (size_is fs e i)
 
   -- what is written of u is written of the variable that u replaces
-  replaced : {u : Term} {new : List ℕ} {r : Filled} → fill-at c e (var m) ≡ u → FilledTo (var m) u at old to new r
-      → FilledTo (var m) (fill-at c e (var m)) at old to new r
+  replaced : {u : Term} {new : List ℕ} {r : Filled} → fill_at c e (var m) ≡ u → FilledTo (var m) u at old to new r
+      → FilledTo (var m) (fill_at c e (var m)) at old to new r
   replaced {u} {new} {r} q f = subst (λ (v : Term). FilledTo (var m) v at old to new r) (sym q) f
 
-  pub same-done : {z : ℤ} (new : List ℕ) (w : Shift) → z ≡ pos c → length fs ≤ length old - to → n ≡ c → Shifted e 0 z old to new w
-      → FilledTo (var m) (fill-at c e (var m)) at old to new (Done (at + 1) (to + w.words))
+  pub same_done : {z : ℤ} (new : List ℕ) (w : Shift) → z ≡ pos c → length fs ≤ length old - to → n ≡ c → Shifted e 0 z old to new w
+      → FilledTo (var m) (fill_at c e (var m)) at old to new (Done (at + 1) (to + w.words))
   unfolding size
-  same-done {z} new w p f q s =
+  same_done {z} new w p f q s =
       let b = size_is fs e i in
       replaced (fill_here e (sym number ∙ q))
-      (done (var m) (raise c e) at old to new (at + 1) (to + w.words) refl (omega (arith, s.words_are, raised-words)) (omega (arith, s.words_are))
+      (done (var m) (raise c e) at old to new (at + 1) (to + w.words) refl (omega (arith, s.words_are, raised_words)) (omega (arith, s.words_are))
       (s.words ∙ ap (λ (v : ℤ). written_at old to (encode (shift 0 v e))) p))
 
-  pub same_over : length old - to < length fs → n ≡ c → FilledTo (var m) (fill-at c e (var m)) at old to old Over
-  same_over f q = replaced (fill_here e (sym number ∙ q)) (over (var m) (raise c e) at old to old (omega (arith, raised-words)))
+  pub same_over : length old - to < length fs → n ≡ c → FilledTo (var m) (fill_at c e (var m)) at old to old Over
+  same_over f q = replaced (fill_here e (sym number ∙ q)) (over (var m) (raise c e) at old to old (omega (arith, raised_words)))
 
-  pub low-done : to < length old → n < c → FilledTo (var m) (fill-at c e (var m)) at old to (set old to (get_or ws at 0)) (Done (at + 1) (to + 1))
+  pub low_done : to < length old → n < c → FilledTo (var m) (fill_at c e (var m)) at old to (set old to (get_or ws at 0)) (Done (at + 1) (to + 1))
   unfolding size encode
-  low-done r q =
+  low_done r q =
       let x = number in
-      replaced (fill-below e (omega arith))
+      replaced (fill_below e (omega arith))
       (done (var m) (var m) at old to _ (at + 1) (to + 1) refl refl (omega arith)
-      (written-set old to _ r ∙ ap (λ (v : ℕ). written_at old to (v ∷ [])) (at_head h)))
+      (written_set old to _ r ∙ ap (λ (v : ℕ). written_at old to (v ∷ [])) (at_head h)))
 
-  pub high-done : to < length old → c ≤ n → (n ≡ c → ⊥)
-      → FilledTo (var m) (fill-at c e (var m)) at old to (set old to (word tag-variable (n - 1))) (Done (at + 1) (to + 1))
+  pub high_done : to < length old → c ≤ n → (n ≡ c → ⊥)
+      → FilledTo (var m) (fill_at c e (var m)) at old to (set old to (word tag_variable (n - 1))) (Done (at + 1) (to + 1))
   unfolding size encode
-  high-done r q d =
+  high_done r q d =
       let x = number in
-      replaced (fill-above e (omega arith))
+      replaced (fill_above e (omega arith))
       (done (var m) (var (m - 1)) at old to _ (at + 1) (to + 1) refl refl (omega arith)
-      (written-set old to _ r ∙ ap (λ (v : ℕ). written_at old to (word tag-variable (v - 1) ∷ [])) x))
+      (written_set old to _ r ∙ ap (λ (v : ℕ). written_at old to (word tag_variable (v - 1) ∷ [])) x))
 
 -- ---- a Sign and an atom stay
 
 module _ {ws : List ℕ} {at : ℕ} (c : ℕ) (old : List ℕ) (to : ℕ) (e : Term) where
-  pub sign-filled : {new : List ℕ} (next n : ℕ) (q : Term) → At ws at (sign n q) → next ≡ at + size (sign n q)
+  pub sign_filled : {new : List ℕ} (next n : ℕ) (q : Term) → At ws at (sign n q) → next ≡ at + size (sign n q)
       → to ≤ length old → next - at ≤ length old - to → new ≡ written_at old to (take (next - at) (drop at ws))
-      → FilledTo (sign n q) (fill-at c e (sign n q)) at old to new (Done next (to + (next - at)))
-  unfolding fill-at
-  sign-filled next n q h i l m w =
-      done (sign n q) (sign n q) at old to _ next (to + (next - at)) i (omega arith) (omega arith) (w ∙ ap (written_at old to) (part-is next h i))
+      → FilledTo (sign n q) (fill_at c e (sign n q)) at old to new (Done next (to + (next - at)))
+  unfolding fill_at
+  sign_filled next n q h i l m w =
+      done (sign n q) (sign n q) at old to _ next (to + (next - at)) i (omega arith) (omega arith) (w ∙ ap (written_at old to) (part_is next h i))
 
-  pub sign-over : (next n : ℕ) (q : Term) → At ws at (sign n q) → next ≡ at + size (sign n q) → length old - to < next - at
-      → FilledTo (sign n q) (fill-at c e (sign n q)) at old to old Over
-  unfolding fill-at
-  sign-over next n q h i l = over (sign n q) (sign n q) at old to old (omega arith)
+  pub sign_over : (next n : ℕ) (q : Term) → At ws at (sign n q) → next ≡ at + size (sign n q) → length old - to < next - at
+      → FilledTo (sign n q) (fill_at c e (sign n q)) at old to old Over
+  unfolding fill_at
+  sign_over next n q h i l = over (sign n q) (sign n q) at old to old (omega arith)
 
-  pub atom-filled : (a : Atom) → At ws at (atom a) → to < length old
-      → FilledTo (atom a) (fill-at c e (atom a)) at old to (set old to (get_or ws at 0)) (Done (at + 1) (to + 1))
-  unfolding fill-at size encode
-  atom-filled a h l =
+  pub atom_filled : (a : Atom) → At ws at (atom a) → to < length old
+      → FilledTo (atom a) (fill_at c e (atom a)) at old to (set old to (get_or ws at 0)) (Done (at + 1) (to + 1))
+  unfolding fill_at size encode
+  atom_filled a h l =
       done (atom a) (atom a) at old to _ (at + 1) (to + 1) refl refl (omega arith)
-      (written-set old to _ l ∙ ap (λ (w : ℕ). written_at old to (w ∷ [])) (at_head h))
+      (written_set old to _ l ∙ ap (λ (w : ℕ). written_at old to (w ∷ [])) (at_head h))
 
 -- ---- a node
 
@@ -146,35 +146,35 @@ same_answer n n' x x' len len' p q r = ap (λ (y : ℕ). within (leb x len) y x)
 
 module _ (ws fs : List ℕ) (at c : ℕ) (old mid : List ℕ) (to : ℕ) {r : Filled}
     (f : Fills ws (at + 1) c fs (set old to (get_or ws at 0)) (to + 1) mid r) (o : Op) (a b e : Term) (h : At ws at (node o a b)) (i : Is fs e) where
-  pub node_over : r ≡ Over → FilledTo (node o a b) (fill-at c e (node o a b)) at old to mid r
-  unfolding fill-at size
+  pub node_over : r ≡ Over → FilledTo (node o a b) (fill_at c e (node o a b)) at old to mid r
+  unfolding fill_at size
   node_over v =
       let l : length (set old to (get_or ws at 0)) ≡ length old = length-set old to (get_or ws at 0) in
-      let g = over-is a (fill-at c e a) (at + 1) (to + 1) _ (f a e (at_left h) i).answer v in
-      subst (FilledTo (node o a b) (fill-at c e (node o a b)) at old to mid) (sym v)
-      (over (node o a b) (fill-at c e (node o a b)) at old to mid (omega arith))
+      let g = over_is a (fill_at c e a) (at + 1) (to + 1) _ (f a e (at_left h) i).answer v in
+      subst (FilledTo (node o a b) (fill_at c e (node o a b)) at old to mid) (sym v)
+      (over (node o a b) (fill_at c e (node o a b)) at old to mid (omega arith))
 
-  pub node-filled : {new : List ℕ} {last : Filled} (k next end : ℕ) → k ≡ op-kind o → to < length old → r ≡ Done next end
-      → Fills ws next (c + (k - kind-node)) fs mid end new last → FilledTo (node o a b) (fill-at c e (node o a b)) at old to new last
-  unfolding fill-at size encode
-  node-filled {new} {last} k next end p l v g =
+  pub node_filled : {new : List ℕ} {last : Filled} (k next end : ℕ) → k ≡ op_kind o → to < length old → r ≡ Done next end
+      → Fills ws next (c + (k - kind_node)) fs mid end new last → FilledTo (node o a b) (fill_at c e (node o a b)) at old to new last
+  unfolding fill_at size encode
+  node_filled {new} {last} k next end p l v g =
       let d : ℕ = under (binds o) suc c in
-      let x : Term = fill-at c e a in
-      let y : Term = fill-at d e b in
+      let x : Term = fill_at c e a in
+      let y : Term = fill_at d e b in
       let s : length (set old to (get_or ws at 0)) ≡ length old = length-set old to (get_or ws at 0) in
       let fa = f a e (at_left h) i in
-      let was = done-is a x (at + 1) (to + 1) _ fa.answer next end v in
-      let la : length (encode x) ≡ size x = encode-size x in
+      let was = done_is a x (at + 1) (to + 1) _ fa.answer next end v in
+      let la : length (encode x) ≡ size x = encode_size x in
       let en : end ≡ to + 1 + length (encode x) = omega arith in
       let mw = fa.words (omega arith) in
-      let lm : length mid ≡ length old = ap length mw ∙ length-written (set old to (get_or ws at 0)) (to + 1) (encode x) (omega arith) ∙ s in
-      let gb = subst (λ (n : ℕ). FilledTo b (fill-at n e b) next mid end new last) (deeper (binds o) k c p)
-      (g b e (subst (λ (n : ℕ). At ws n b) (sym was.next-is) (at_right h)) i) in
-      let nx : next + size b ≡ at + suc (size a + size b) = omega (arith, was.next-is) in
+      let lm : length mid ≡ length old = ap length mw ∙ length_written (set old to (get_or ws at 0)) (to + 1) (encode x) (omega arith) ∙ s in
+      let gb = subst (λ (n : ℕ). FilledTo b (fill_at n e b) next mid end new last) (deeper (binds o) k c p)
+      (g b e (subst (λ (n : ℕ). At ws n b) (sym was.next_is) (at_right h)) i) in
+      let nx : next + size b ≡ at + suc (size a + size b) = omega (arith, was.next_is) in
       let ex : end + size y ≡ to + suc (size x + size y) = omega (arith, was.end_is) in
       record {
         answer = gb.answer ∙ same_answer _ _ _ _ _ _ nx ex lm;
-        words = λ fits. written-node old mid new to (op-word o) _ (encode x) (encode y) l refl
+        words = λ fits. written_node old mid new to (op_word o) _ (encode x) (encode y) l refl
             (mw ∙ ap (λ (w : ℕ). written_at (set old to w) (to + 1) (encode x)) (at_head h))
             (gb.words (omega arith) ∙ ap (λ (n : ℕ). written_at mid n (encode y)) en);
       }

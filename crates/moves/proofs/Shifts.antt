@@ -6,103 +6,103 @@ use mathlib.Core.List.{List, [], ◌∷◌}
 use lib.ListN.{length, take, drop, set, get_or}
 use lib.Seq.{set-get_or, take-length}
 use lib.IntN.{ℤ, pos}
-use Rattle.logic.specs.Tags.{tag-variable}
-use Rattle.logic.specs.Term.{Op, Term, atom, var, sign, node, payload-of, word, op-word, encode, size, binds, under}
-use Rattle.logic.specs.Move.{moved, shift, free-from}
-use Rattle.logic.specs.Kind.{kind-variable, kind-node, op-kind}
-use Rattle.logic.proofs.Sub.{shift-below, shift-above}
-use Rattle.logic.proofs.FreeVariables.{free-below, free-above, shift_zero}
-use Rattle.logic.proofs.Words.{encode-size}
-use Rattle.logic.proofs.Shapes.{term-kind, op-low}
+use Rattle.logic.specs.Tags.{tag_variable}
+use Rattle.logic.specs.Term.{Op, Term, atom, var, sign, node, payload_of, word, op_word, encode, size, binds, under}
+use Rattle.logic.specs.Move.{moved, shift, free_from}
+use Rattle.logic.specs.Kind.{kind_variable, kind_node, op_kind}
+use Rattle.logic.proofs.Sub.{shift_below, shift_above}
+use Rattle.logic.proofs.FreeVariables.{free_below, free_above, shift_zero}
+use Rattle.logic.proofs.Words.{encode_size}
+use Rattle.logic.proofs.Shapes.{term_kind, op_low}
 use Rattle.words.specs.Place.{At, Is, written_at}
-use Rattle.words.proofs.Lists.{written-set, written-node, written_same, written_over, drop-written}
-use Rattle.words.proofs.Places.{at_head, at-end, at_part, at-payload, at_after, at_left, at_right, deeper}
+use Rattle.words.proofs.Lists.{written_set, written_node, written_same, written_over, drop_written}
+use Rattle.words.proofs.Places.{at_head, at_end, at_part, at_payload, at_after, at_left, at_right, deeper}
 use Rattle.moves.specs.Shift.{Shifted}
 use Rattle.moves.specs.declared.shift.Shift.{Shift}
 
-pub size-shift : (c : ℕ) (z : ℤ) (t : Term) → size (shift c z t) ≡ size t
+pub size_shift : (c : ℕ) (z : ℤ) (t : Term) → size (shift c z t) ≡ size t
 unfolding size shift
-size-shift c z (atom a) = refl
-size-shift c z (var n) = refl
-size-shift c z (sign p q) = refl
-size-shift c z (node o a b) = ap₂ (λ (x y : ℕ). suc (x + y)) (size-shift c z a) (size-shift (under (binds o) suc c) z b)
+size_shift c z (atom a) = refl
+size_shift c z (var n) = refl
+size_shift c z (sign p q) = refl
+size_shift c z (node o a b) = ap₂ (λ (x y : ℕ). suc (x + y)) (size_shift c z a) (size_shift (under (binds o) suc c) z b)
 
 pub length_shift : (c : ℕ) (z : ℤ) (t : Term) → length (encode (shift c z t)) ≡ size t
-length_shift c z t = encode-size (shift c z t) ∙ size-shift c z t
+length_shift c z t = encode_size (shift c z t) ∙ size_shift c z t
 
 -- ---- in place
 
 -- the first child's words leave the second where it stands
-pub second-stands : (ws mid : List ℕ) (at c : ℕ) (r : Shift) (z : ℤ) (a b : Term) → at < length ws → Shifted a c z ws (at + 1) mid r
+pub second_stands : (ws mid : List ℕ) (at c : ℕ) (r : Shift) (z : ℤ) (a b : Term) → at < length ws → Shifted a c z ws (at + 1) mid r
     → At ws (at + 1 + size a) b → At mid (at + 1 + r.words) b
-second-stands ws mid at c r z a b l f h =
+second_stands ws mid at c r z a b l f h =
     let n = length_shift c z a in
     subst (λ (m : List ℕ). At m (at + 1 + r.words) b) (sym f.words)
     (at_after (at + 1) (encode (shift c z a)) (omega arith) (omega (arith, f.words_are)) (subst (λ (i : ℕ). At ws (at + 1 + i) b) (sym f.words_are) h))
 
 -- an atom or a Sign stays, and no variable is counted in it
-stays : (c : ℕ) (z : ℤ) (k : ℕ) → (k ≡ kind-variable → ⊥) → k < kind-node → (t : Term) → k ≡ term-kind t → (shift c z t ≡ t) × (free-from c t ≡ 0)
-unfolding shift free-from
+stays : (c : ℕ) (z : ℤ) (k : ℕ) → (k ≡ kind_variable → ⊥) → k < kind_node → (t : Term) → k ≡ term_kind t → (shift c z t ≡ t) × (free_from c t ≡ 0)
+unfolding shift free_from
 stays c z k n l (atom a) q = (refl, refl)
 stays c z k n l (var m) q = absurd (n q)
 stays c z k n l (sign m u) q = (refl, refl)
-stays c z k n l (node o a b) q = absurd (omega (arith, op-low o))
+stays c z k n l (node o a b) q = absurd (omega (arith, op_low o))
 
 -- the words that stand there are the shifted term's
 unmoved : {ws : List ℕ} {at : ℕ} (c : ℕ) (z : ℤ) (t : Term) → At ws at t → shift c z t ≡ t → ws ≡ written_at ws at (encode (shift c z t))
-unmoved {ws} {at} c z t h e = sym (written_same ws at (size t) (at-end h)) ∙ ap (written_at ws at) (at_part h ∙ ap encode (sym e))
+unmoved {ws} {at} c z t h e = sym (written_same ws at (size t) (at_end h)) ∙ ap (written_at ws at) (at_part h ∙ ap encode (sym e))
 
 -- so a shift by 0 leaves the list as it is
-pub zero-shifted : {ws mid : List ℕ} {at c : ℕ} {t : Term} {r : Shift} → At ws at t → Shifted t c (pos 0) ws at mid r → mid ≡ ws
-zero-shifted {c} {t} h f = f.words ∙ sym (unmoved c (pos 0) t h (shift_zero c t))
+pub zero_shifted : {ws mid : List ℕ} {at c : ℕ} {t : Term} {r : Shift} → At ws at t → Shifted t c (pos 0) ws at mid r → mid ≡ ws
+zero_shifted {c} {t} h f = f.words ∙ sym (unmoved c (pos 0) t h (shift_zero c t))
 
 module _ (ws : List ℕ) (at c : ℕ) (z : ℤ) where
-  pub kept-shifted : (k end : ℕ) → (k ≡ kind-variable → ⊥) → k < kind-node → (t : Term) → k ≡ term-kind t → At ws at t → end ≡ at + size t
+  pub kept_shifted : (k end : ℕ) → (k ≡ kind_variable → ⊥) → k < kind_node → (t : Term) → k ≡ term_kind t → At ws at t → end ≡ at + size t
       → Shifted t c z ws at ws (record { words = end - at; free = 0 })
-  kept-shifted k end n l t q h e =
+  kept_shifted k end n l t q h e =
       let s = stays c z k n l t q in
-      record { words_are = omega arith; free-is = sym s.1; words = unmoved c z t h s.0 }
+      record { words_are = omega arith; free_is = sym s.1; words = unmoved c z t h s.0 }
 
   -- a variable that is bound stays
-  pub bound-shifted : (p : ℕ) → p ≡ payload-of (get_or ws at 0) → p < c → (n : ℕ) → At ws at (var n)
+  pub bound_shifted : (p : ℕ) → p ≡ payload_of (get_or ws at 0) → p < c → (n : ℕ) → At ws at (var n)
       → Shifted (var n) c z ws at ws (record { words = 1; free = 0 })
   unfolding size
-  bound-shifted p j l n h =
-      let i : p ≡ n = j ∙ at-payload ws at n h in
+  bound_shifted p j l n h =
+      let i : p ≡ n = j ∙ at_payload ws at n h in
       let b : n < c = omega arith in
-      record { words_are = refl; free-is = sym (free-below b); words = unmoved c z (var n) h (shift-below z b) }
+      record { words_are = refl; free_is = sym (free_below b); words = unmoved c z (var n) h (shift_below z b) }
 
   -- z' is the amount as it is read back from its bits
-  pub var-shifted : {z' : ℤ} (p : ℕ) {r : ℕ} → z' ≡ z → at < length ws → p ≡ payload-of (get_or ws at 0) → c ≤ p → r ≡ moved z' p
-      → (n : ℕ) → At ws at (var n) → Shifted (var n) c z ws at (set ws at (word tag-variable r)) (record { words = 1; free = 1 })
+  pub var_shifted : {z' : ℤ} (p : ℕ) {r : ℕ} → z' ≡ z → at < length ws → p ≡ payload_of (get_or ws at 0) → c ≤ p → r ≡ moved z' p
+      → (n : ℕ) → At ws at (var n) → Shifted (var n) c z ws at (set ws at (word tag_variable r)) (record { words = 1; free = 1 })
   unfolding size encode
-  var-shifted p i l j b f n h =
-      let e : p ≡ n = j ∙ at-payload ws at n h in
+  var_shifted p i l j b f n h =
+      let e : p ≡ n = j ∙ at_payload ws at n h in
       let g : c ≤ n = omega arith in
       record {
         words_are = refl;
-        free-is = sym (free-above g);
-        words = written-set ws at _ l
-            ∙ ap (λ (v : ℕ). written_at ws at (word tag-variable v ∷ [])) (f ∙ ap₂ moved i e)
-            ∙ ap (λ (u : Term). written_at ws at (encode u)) (sym (shift-above z g));
+        free_is = sym (free_above g);
+        words = written_set ws at _ l
+            ∙ ap (λ (v : ℕ). written_at ws at (word tag_variable v ∷ [])) (f ∙ ap₂ moved i e)
+            ∙ ap (λ (u : Term). written_at ws at (encode u)) (sym (shift_above z g));
       }
 
-  pub node-shifted : {mid new : List ℕ} {z' : ℤ} (k : ℕ) {ra rb : Shift} → z' ≡ z → at < length ws
+  pub node_shifted : {mid new : List ℕ} {z' : ℤ} (k : ℕ) {ra rb : Shift} → z' ≡ z → at < length ws
       → ((a : Term) → At ws (at + 1) a → Shifted a c z' ws (at + 1) mid ra)
-      → ((b : Term) → At mid (at + 1 + ra.words) b → Shifted b (c + (k - kind-node)) z' mid (at + 1 + ra.words) new rb)
-      → (o : Op) (a b : Term) → k ≡ op-kind o → At ws at (node o a b)
+      → ((b : Term) → At mid (at + 1 + ra.words) b → Shifted b (c + (k - kind_node)) z' mid (at + 1 + ra.words) new rb)
+      → (o : Op) (a b : Term) → k ≡ op_kind o → At ws at (node o a b)
       → Shifted (node o a b) c z ws at new (record { words = 1 + ra.words + rb.words; free = ra.free + rb.free })
-  unfolding size shift free-from encode
-  node-shifted {mid} {new} {z'} k {ra} {rb} i l f g o a b q h =
+  unfolding size shift free_from encode
+  node_shifted {mid} {new} {z'} k {ra} {rb} i l f g o a b q h =
       let F = f a (at_left h) in
-      let G = g b (second-stands ws mid at c ra z' a b l F (at_right h)) in
+      let G = g b (second_stands ws mid at c ra z' a b l F (at_right h)) in
       let x : List ℕ = encode (shift c z a) in
       let y : List ℕ = encode (shift (under (binds o) suc c) z b) in
-      let there : ws ≡ set ws at (op-word o) = sym (set-get_or ws at 0) ∙ ap (set ws at) (at_head h) in
+      let there : ws ≡ set ws at (op_word o) = sym (set-get_or ws at 0) ∙ ap (set ws at) (at_head h) in
       record {
         words_are = omega (arith, F.words_are, G.words_are);
-        free-is = ap₂ ◌+◌ F.free-is (G.free-is ∙ ap (λ (n : ℕ). free-from n b) (deeper (binds o) k c q));
-        words = written-node ws mid new at (op-word o) ra.words x y l (F.words_are ∙ sym (length_shift c z a))
+        free_is = ap₂ ◌+◌ F.free_is (G.free_is ∙ ap (λ (n : ℕ). free_from n b) (deeper (binds o) k c q));
+        words = written_node ws mid new at (op_word o) ra.words x y l (F.words_are ∙ sym (length_shift c z a))
             (F.words ∙ ap₂ (λ (v : ℤ) (m : List ℕ). written_at m (at + 1) (encode (shift c v a))) i there)
             (G.words ∙ ap₂ (λ (v : ℤ) (n : ℕ). written_at mid (at + 1 + ra.words) (encode (shift n v b))) i (deeper (binds o) k c q));
       }
@@ -115,23 +115,23 @@ module _ (src old mid : List ℕ) (to : ℕ) (l : to ≤ length old) (w : mid �
   copied = w ∙ ap (written_at old to) (take-length src ∙ i.words)
 
   -- the copy stands there
-  pub copy-stands : At mid to t
-  copy-stands =
+  pub copy_stands : At mid to t
+  copy_stands =
       let rest : List ℕ = drop (to + length (encode t)) old in
       record {
         plain = i.plain;
         rest = rest;
-        words = ap (drop to) copied ∙ drop-written old (encode t) to l;
+        words = ap (drop to) copied ∙ drop_written old (encode t) to l;
       }
 
-  pub copy-shifted : {c : ℕ} {z z' : ℤ} {new : List ℕ} {r : Shift} → z' ≡ z → ((u : Term) → At mid to u → Shifted u c z' mid to new r)
+  pub copy_shifted : {c : ℕ} {z z' : ℤ} {new : List ℕ} {r : Shift} → z' ≡ z → ((u : Term) → At mid to u → Shifted u c z' mid to new r)
       → Shifted t c z old to new r
-  copy-shifted {c} {z} {z'} {new} {r} j f =
-      let s = f t copy-stands in
+  copy_shifted {c} {z} {z'} {new} {r} j f =
+      let s = f t copy_stands in
       record {
         words_are = s.words_are;
-        free-is = s.free-is;
+        free_is = s.free_is;
         words = s.words
             ∙ ap₂ (λ (m : List ℕ) (v : ℤ). written_at m to (encode (shift c v t))) copied j
-            ∙ written_over old to (encode t) (encode (shift c z t)) l (encode-size t ∙ sym (length_shift c z t));
+            ∙ written_over old to (encode t) (encode (shift c z t)) l (encode_size t ∙ sym (length_shift c z t));
       }

@@ -17,11 +17,11 @@ pub record Fillable (ws : List ℕ) (at c : ℕ) (fs : List ℕ) : Type 0 where
   pub short : length fs ≤ payloads
 
 -- the values of each case: where the next term starts and where the words written end
-abbrev pub filled-answer : Filled → Option (ℕ × ℕ)
-filled-answer (Done next end) = some (next, end)
-filled-answer Over = none
+abbrev pub filled_answer : Filled → Option (ℕ × ℕ)
+filled_answer (Done next end) = some (next, end)
+filled_answer Over = none
 
 -- of t, which stands at a place, u is written from the place to on, if there is room
 pub record FilledTo (t u : Term) (at : ℕ) (old : List ℕ) (to : ℕ) (new : List ℕ) (r : Filled) : Type 0 where
-  pub answer : filled-answer r ≡ cond (leb (to + size u) (length old)) (some (at + size t, to + size u)) none
+  pub answer : filled_answer r ≡ cond (leb (to + size u) (length old)) (some (at + size t, to + size u)) none
   pub words : to + size u ≤ length old → new ≡ written_at old to (encode u)

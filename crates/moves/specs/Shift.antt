@@ -2,7 +2,7 @@
 use Rattle.std.specs.Prelude.{ℕ, ◌+◌, ◌≤◌, ◌≡◌, List, length, ℤ, nat_abs}
 use Rattle.logic.specs.Limits.{payloads}
 use Rattle.logic.specs.Term.{Term, encode, size}
-use Rattle.logic.specs.Move.{shift, free-from}
+use Rattle.logic.specs.Move.{shift, free_from}
 use Rattle.words.specs.Place.{At, Is, written_at}
 use Rattle.moves.specs.declared.shift.Shift.{Shift}
 
@@ -25,5 +25,5 @@ pub record ShiftableWhole (ws : List ℕ) (c : ℕ) (z : ℤ) (room : ℕ) : Typ
 -- the words of the shifted term were written at a place, and the variables that stand free from c on were counted
 pub record Shifted (t : Term) (c : ℕ) (z : ℤ) (old : List ℕ) (to : ℕ) (new : List ℕ) (r : Shift) : Type 0 where
   pub words_are : r.words ≡ size t
-  pub free-is : r.free ≡ free-from c t
+  pub free_is : r.free ≡ free_from c t
   pub words : new ≡ written_at old to (encode (shift c z t))

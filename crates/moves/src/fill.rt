@@ -1,7 +1,7 @@
 // Filling a body: a variable is replaced by a term, which is raised under each binder passed.
 ghost use Rattle.std.specs.Prelude.{ℕ, ◌+◌, ◌-◌, ◌≤◌, ◌<◌, length};
 ghost use Rattle.logic.specs.Term.{Term, var};
-ghost use Rattle.logic.specs.Move.{fill-at};
+ghost use Rattle.logic.specs.Move.{fill_at};
 ghost use Rattle.words.specs.Place.{At, Is};
 ghost use Rattle.moves.specs.Fill.{Fillable, FilledTo};
 
@@ -27,7 +27,7 @@ fn fill_variable(
 ) -> Filled
     requires { (to ≤ length out.old) × Fillable src.now at c filler.now }
     ensures { (n : ℕ) → (e : Term) → At src.now at (var n) → Is filler.now e
-        → FilledTo (var n) (fill-at c e (var n)) at out.old to out.new result }
+        → FilledTo (var n) (fill_at c e (var n)) at out.old to out.new result }
 {
     let word = src[at];
     let n = payload_of(word);
@@ -71,7 +71,7 @@ pub fn fill_into(
 ) -> Filled
     requires { (to ≤ length out.old) × Fillable src.now at c filler.now }
     ensures { (t e : Term) → At src.now at t → Is filler.now e
-        → FilledTo t (fill-at c e t) at out.old to out.new result }
+        → FilledTo t (fill_at c e t) at out.old to out.new result }
 {
     let mut start = at;
     let mut depth = c;

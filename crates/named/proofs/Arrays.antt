@@ -9,20 +9,20 @@ use lib.Seq.{get_or-set_same, get_or-set_other}
 use borrow.Author.Tests.{eq-eqb, ne_eqb}
 use native.Mathlib.Omega.{arith}
 use Rattle.logic.specs.Limits.{payloads}
-use Rattle.logic.specs.Term.{tag_of, payload-of}
-use Rattle.logic.specs.Kind.{kind-node, kind-binder}
+use Rattle.logic.specs.Term.{tag_of, payload_of}
+use Rattle.logic.specs.Kind.{kind_node, kind_binder}
 use Rattle.editions.specs.Named.{labelled}
 use Rattle.editions.specs.Edition.{tag_word}
 use Rattle.editions.specs.Convert.{one_more, nearest, enter, relabel}
-use Rattle.named.specs.Answers.{scope, enter-by, relabel-by}
+use Rattle.named.specs.Answers.{scope, enter_by, relabel_by}
 use Rattle.editions.specs.declared.Edition.{Edition}
 use Rattle.editions.specs.declared.Edition.TheVariants.{Counts, Names}
-use Rattle.editions.proofs.Scopes.{nearest-here, nearest-there}
+use Rattle.editions.proofs.Scopes.{nearest_here, nearest_there}
 
-pub scope-length : (names : List ℕ) (c : ℕ) → length (scope names c) ≡ c
+pub scope_length : (names : List ℕ) (c : ℕ) → length (scope names c) ≡ c
 unfolding scope
-scope-length names zero = refl
-scope-length names (suc c) = ap suc (scope-length names c)
+scope_length names zero = refl
+scope_length names (suc c) = ap suc (scope_length names c)
 
 -- ---- the search, from the nearest name on
 
@@ -46,16 +46,16 @@ found_here names c zero x l h e = absurd (omega arith)
 found_here names c (suc i) x l h e =
     let z : suc i - 1 ≡ i = omega arith in
     let n : c - 1 - (suc i - 1) ≡ c - suc i + 0 = omega arith in
-    ap some n ∙ ap (added (c - suc i)) (sym (nearest-here x (get_or names i 0) (scope names i) (sym e ∙ ap (λ k. get_or names k 0) z)))
+    ap some n ∙ ap (added (c - suc i)) (sym (nearest_here x (get_or names i 0) (scope names i) (sym e ∙ ap (λ k. get_or names k 0) z)))
 
 -- it is another
-pub found-there : (names : List ℕ) (c i x : ℕ) → 0 < i → i ≤ c → (get_or names (i - 1) 0 ≡ x → ⊥) →
+pub found_there : (names : List ℕ) (c i x : ℕ) → 0 < i → i ≤ c → (get_or names (i - 1) 0 ≡ x → ⊥) →
     added (c - i) (nearest x (scope names i)) ≡ added (c - (i - 1)) (nearest x (scope names (i - 1)))
 unfolding scope
-found-there names c zero x l h d = absurd (omega arith)
-found-there names c (suc i) x l h d =
+found_there names c zero x l h d = absurd (omega arith)
+found_there names c (suc i) x l h d =
     let z : suc i - 1 ≡ i = omega arith in
-    ap (added (c - suc i)) (nearest-there x (get_or names i 0) (scope names i) (λ e. d (ap (λ k. get_or names k 0) z ∙ sym e)))
+    ap (added (c - suc i)) (nearest_there x (get_or names i 0) (scope names i) (λ e. d (ap (λ k. get_or names k 0) z ∙ sym e)))
     ∙ added_more (c - suc i) (c - (suc i - 1)) (nearest x (scope names i)) (omega arith)
     ∙ ap (λ k. added (c - (suc i - 1)) (nearest x (scope names k))) (sym z)
 
@@ -67,58 +67,58 @@ found_none names c (suc i) x l = absurd (omega arith)
 
 -- ---- the n-th name
 
-pub name-at : (names : List ℕ) (c n : ℕ) → n < c → some (get_or names (c - 1 - n) 0) ≡ get_elem? (scope names c) n
+pub name_at : (names : List ℕ) (c n : ℕ) → n < c → some (get_or names (c - 1 - n) 0) ≡ get_elem? (scope names c) n
 unfolding scope
-name-at names zero n l = absurd (omega arith)
-name-at names (suc c) zero l = let z : suc c - 1 - 0 ≡ c = omega arith in ap (λ k. some (get_or names k 0)) z
-name-at names (suc c) (suc n) l =
+name_at names zero n l = absurd (omega arith)
+name_at names (suc c) zero l = let z : suc c - 1 - 0 ≡ c = omega arith in ap (λ k. some (get_or names k 0)) z
+name_at names (suc c) (suc n) l =
     let z : suc c - 1 - suc n ≡ c - 1 - n = omega arith in
-    ap (λ k. some (get_or names k 0)) z ∙ name-at names c n (omega arith)
+    ap (λ k. some (get_or names k 0)) z ∙ name_at names c n (omega arith)
 
-pub name-past : (names : List ℕ) (c n : ℕ) → c ≤ n → none ≡ get_elem? (scope names c) n
+pub name_past : (names : List ℕ) (c n : ℕ) → c ≤ n → none ≡ get_elem? (scope names c) n
 unfolding scope
-name-past names zero n l = refl
-name-past names (suc c) zero l = absurd (omega arith)
-name-past names (suc c) (suc n) l = name-past names c n (omega arith)
+name_past names zero n l = refl
+name_past names (suc c) zero l = absurd (omega arith)
+name_past names (suc c) (suc n) l = name_past names c n (omega arith)
 
 -- ---- one name more
 
-scope-set : (names : List ℕ) (i c x : ℕ) → c ≤ i → scope (set names i x) c ≡ scope names c
+scope_set : (names : List ℕ) (i c x : ℕ) → c ≤ i → scope (set names i x) c ≡ scope names c
 unfolding scope
-scope-set names i zero x l = refl
-scope-set names i (suc c) x l =
-    ap₂ (λ (y : ℕ) (ns : List ℕ). y ∷ ns) (get_or-set_other names i c x 0 (λ e. omega arith)) (scope-set names i c x (omega arith))
+scope_set names i zero x l = refl
+scope_set names i (suc c) x l =
+    ap₂ (λ (y : ℕ) (ns : List ℕ). y ∷ ns) (get_or-set_other names i c x 0 (λ e. omega arith)) (scope_set names i c x (omega arith))
 
-scope-more : (names : List ℕ) (c x : ℕ) → c < length names → scope (set names c x) (suc c) ≡ x ∷ scope names c
+scope_more : (names : List ℕ) (c x : ℕ) → c < length names → scope (set names c x) (suc c) ≡ x ∷ scope names c
 unfolding scope
-scope-more names c x l = ap₂ (λ (y : ℕ) (ns : List ℕ). y ∷ ns) (get_or-set_same names c x 0 l) (scope-set names c c x (omega arith))
+scope_more names c x l = ap₂ (λ (y : ℕ) (ns : List ℕ). y ∷ ns) (get_or-set_same names c x 0 l) (scope_set names c c x (omega arith))
 
 -- the names in a binder's body, and in the second child of another node
-pub entered-binder : (e : Edition) (names : List ℕ) (c k w x : ℕ) → c < length names → k ≡ kind-binder →
-    enter e true (payload-of w) (scope names c) ≡ x ∷ scope names c →
-    scope (set names c x) (c + (k - kind-node)) ≡ enter-by e k w (scope names c)
-entered-binder e names c k w x l h f =
-    let z : c + (k - kind-node) ≡ suc c = omega arith in
-    rw (eq-eqb k kind-binder h) (ap (scope (set names c x)) z ∙ scope-more names c x l ∙ sym f)
+pub entered_binder : (e : Edition) (names : List ℕ) (c k w x : ℕ) → c < length names → k ≡ kind_binder →
+    enter e true (payload_of w) (scope names c) ≡ x ∷ scope names c →
+    scope (set names c x) (c + (k - kind_node)) ≡ enter_by e k w (scope names c)
+entered_binder e names c k w x l h f =
+    let z : c + (k - kind_node) ≡ suc c = omega arith in
+    rw (eq-eqb k kind_binder h) (ap (scope (set names c x)) z ∙ scope_more names c x l ∙ sym f)
 
-pub entered-node : (e : Edition) (names : List ℕ) (c k w : ℕ) → (k ≡ kind-binder → ⊥) → kind-node ≤ k → k ≤ kind-binder →
-    scope names (c + (k - kind-node)) ≡ enter-by e k w (scope names c)
-entered-node e names c k w n l h =
-    let z : c + (k - kind-node) ≡ c = omega arith in
-    rw (ne_eqb k kind-binder n) (ap (scope names) z)
+pub entered_node : (e : Edition) (names : List ℕ) (c k w : ℕ) → (k ≡ kind_binder → ⊥) → kind_node ≤ k → k ≤ kind_binder →
+    scope names (c + (k - kind_node)) ≡ enter_by e k w (scope names c)
+entered_node e names c k w n l h =
+    let z : c + (k - kind_node) ≡ c = omega arith in
+    rw (ne_eqb k kind_binder n) (ap (scope names) z)
 
 -- ---- a node's word in the other edition, by the number of its kind
 
-pub relabelled-names : (e : Edition) (k w t : ℕ) (ns : List ℕ) → e ≡ Names → k ≡ kind-binder → t ≡ tag_of w → t * payloads ≡ relabel-by e k w ns
-relabelled-names e k w t ns n h f =
+pub relabelled_names : (e : Edition) (k w t : ℕ) (ns : List ℕ) → e ≡ Names → k ≡ kind_binder → t ≡ tag_of w → t * payloads ≡ relabel_by e k w ns
+relabelled_names e k w t ns n h f =
     let z : t * payloads ≡ tag_word w + 0 = omega arith in
-    rw (eq-eqb k kind-binder h) (z ∙ sym (ap (λ x. labelled true (relabel x true ns) (tag_word w)) n))
+    rw (eq-eqb k kind_binder h) (z ∙ sym (ap (λ x. labelled true (relabel x true ns) (tag_word w)) n))
 
-pub relabelled-counts : (e : Edition) (k w t c : ℕ) (ns : List ℕ) → e ≡ Counts → k ≡ kind-binder → t ≡ tag_of w → length ns ≡ c →
-    t * payloads + c ≡ relabel-by e k w ns
-relabelled-counts e k w t c ns n h f l =
+pub relabelled_counts : (e : Edition) (k w t c : ℕ) (ns : List ℕ) → e ≡ Counts → k ≡ kind_binder → t ≡ tag_of w → length ns ≡ c →
+    t * payloads + c ≡ relabel_by e k w ns
+relabelled_counts e k w t c ns n h f l =
     let z : t * payloads + c ≡ tag_word w + length ns = omega arith in
-    rw (eq-eqb k kind-binder h) (z ∙ sym (ap (λ x. labelled true (relabel x true ns) (tag_word w)) n))
+    rw (eq-eqb k kind_binder h) (z ∙ sym (ap (λ x. labelled true (relabel x true ns) (tag_word w)) n))
 
-pub relabelled-other : (e : Edition) (k w : ℕ) (ns : List ℕ) → (k ≡ kind-binder → ⊥) → w ≡ relabel-by e k w ns
-relabelled-other e k w ns n = rw (ne_eqb k kind-binder n) refl
+pub relabelled_other : (e : Edition) (k w : ℕ) (ns : List ℕ) → (k ≡ kind_binder → ⊥) → w ≡ relabel_by e k w ns
+relabelled_other e k w ns n = rw (ne_eqb k kind_binder n) refl

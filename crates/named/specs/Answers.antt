@@ -1,12 +1,12 @@
 -- What the code is asked and what it ensures.
 use Rattle.std.specs.Prelude.{ℕ, zero, suc, ◌+◌, ◌≤◌, ◌≡◌, cond, List, [], ◌∷◌, ◌++◌, eqb, length, get_or, drop}
 use Rattle.std.proofs.Math.Option.{Option, some, none}
-use Rattle.logic.specs.Limits.{most-nesting}
+use Rattle.logic.specs.Limits.{most_nesting}
 use Rattle.logic.specs.Refusals.{unbound}
 use Rattle.logic.specs.Result.{Result, ok, refused, ◌>>=◌}
-use Rattle.logic.specs.Term.{payload-of}
+use Rattle.logic.specs.Term.{payload_of}
 use Rattle.logic.specs.Reading.{depth}
-use Rattle.logic.specs.Kind.{kind-binder}
+use Rattle.logic.specs.Kind.{kind_binder}
 use Rattle.words.specs.Place.{written_at, after_write}
 use Rattle.editions.specs.Named.{Named, label, labelled, encode', erased}
 use Rattle.editions.specs.Edition.{Plain', tag_word}
@@ -27,16 +27,16 @@ scope names zero = []
 scope names (suc c) = get_or names c 0 ∷ scope names c
 
 -- the names in scope in the second child of a node, and its word in the other edition, by the number of its kind
-abbrev pub enter-by : Edition → (kind word : ℕ) → List ℕ → List ℕ
-enter-by e k w ns = enter e (eqb k kind-binder) (label (eqb k kind-binder) (payload-of w)) ns
+abbrev pub enter_by : Edition → (kind word : ℕ) → List ℕ → List ℕ
+enter_by e k w ns = enter e (eqb k kind_binder) (label (eqb k kind_binder) (payload_of w)) ns
 
-abbrev pub relabel-by : Edition → (kind word : ℕ) → List ℕ → ℕ
-relabel-by e k w ns = labelled (eqb k kind-binder) (relabel e (eqb k kind-binder) ns) (cond (eqb k kind-binder) (tag_word w) w)
+abbrev pub relabel_by : Edition → (kind word : ℕ) → List ℕ → ℕ
+relabel_by e k w ns = labelled (eqb k kind_binder) (relabel e (eqb k kind_binder) ns) (cond (eqb k kind_binder) (tag_word w) w)
 
 -- what each case says
-abbrev pub meant-answer : Meant → Option ℕ
-meant-answer (Bound y) = some y
-meant-answer Unbound = none
+abbrev pub meant_answer : Meant → Option ℕ
+meant_answer (Bound y) = some y
+meant_answer Unbound = none
 
 -- ---- a term that is converted in its place
 
@@ -52,26 +52,26 @@ pub record Convertible (e : Edition) (ws : List ℕ) (at : ℕ) (names : List �
   pub s : Named
   pub here : EditionAt e ws at s
   pub room : length ws ≤ length out
-  pub deep : count + depth (erased s) ≤ most-nesting
+  pub deep : count + depth (erased s) ≤ most_nesting
 
 -- number, place and value of each case: where the term ends, or the first variable that has no binder
-abbrev pub ending-answer : Ending → Result ℕ
-ending-answer (End e) = ok e
-ending-answer (NoBinder p) = refused unbound p
+abbrev pub ending_answer : Ending → Result ℕ
+ending_answer (End e) = ok e
+ending_answer (NoBinder p) = refused unbound p
 
 -- of the term that ends there o was made, and its words are written at the same place
 pub record WroteTerm (o : Result Named) (at end : ℕ) (old new : List ℕ) (r : Ending) : Type 0 where
-  pub answer : ending-answer r ≡ (o >>= λ t. ok end)
+  pub answer : ending_answer r ≡ (o >>= λ t. ok end)
   pub words : (t : Named) → o ≡ ok t → new ≡ written_at old at (encode' t)
 
 -- ---- the calls
 
 -- number, place and value of each case: how many words were written
-abbrev pub conversion-answer : Conversion → Result ℕ
-conversion-answer (Written n) = ok n
-conversion-answer (Refused m p) = refused m p
+abbrev pub conversion_answer : Conversion → Result ℕ
+conversion_answer (Written n) = ok n
+conversion_answer (Refused m p) = refused m p
 
 -- the answer, and the whole output
 pub record ConvertedAs (o : Result (List ℕ)) (old new : List ℕ) (r : Conversion) : Type 0 where
-  pub answer : conversion-answer r ≡ (o >>= λ xs. ok (length xs))
+  pub answer : conversion_answer r ≡ (o >>= λ xs. ok (length xs))
   pub output : new ≡ after_write o old

@@ -1,11 +1,11 @@
 // The names in scope: the first `count` of an array, the last of them that of the nearest binder. Nesting is at most
 // 32, so they fit.
 ghost use Rattle.std.specs.Prelude.{◌≡◌, true, List, ◌∷◌, ℕ, ◌+◌, ◌-◌, ◌≤◌, ◌<◌, length};
-ghost use Rattle.logic.specs.Limits.{most-nesting};
-ghost use Rattle.logic.specs.Term.{payload-of};
-ghost use Rattle.logic.specs.Kind.{kind-node, kind-binder};
+ghost use Rattle.logic.specs.Limits.{most_nesting};
+ghost use Rattle.logic.specs.Term.{payload_of};
+ghost use Rattle.logic.specs.Kind.{kind_node, kind_binder};
 ghost use Rattle.editions.specs.Convert.{nearest as nearest-of, meaning as meaning-of, enter};
-ghost use Rattle.named.specs.Answers.{scope, enter-by, relabel-by, meant-answer};
+ghost use Rattle.named.specs.Answers.{scope, enter_by, relabel_by, meant_answer};
 
 use editions::Edition;
 use logic::limit::MOST_NESTING;
@@ -20,8 +20,8 @@ pub enum Meant {
 
 // "a name means the nearest binder that carries it": how many binders are nearer.
 fn nearest(names: [u32; MOST_NESTING], count: usize, name: u32) -> Meant
-    requires { count ≤ most-nesting }
-    ensures { meant-answer result ≡ nearest-of name (scope names count) }
+    requires { count ≤ most_nesting }
+    ensures { meant_answer result ≡ nearest-of name (scope names count) }
 {
     let mut i = count;
     while 0 < i {
@@ -35,8 +35,8 @@ fn nearest(names: [u32; MOST_NESTING], count: usize, name: u32) -> Meant
 
 // What a variable becomes in the other edition.
 pub fn meaning(edition: Edition, names: [u32; MOST_NESTING], count: usize, variable: u32) -> Meant
-    requires { count ≤ most-nesting }
-    ensures { meant-answer result ≡ meaning-of edition variable (scope names count) }
+    requires { count ≤ most_nesting }
+    ensures { meant_answer result ≡ meaning-of edition variable (scope names count) }
 {
     match edition {
         Edition::Names => nearest(names, count, variable),
@@ -53,8 +53,8 @@ pub fn meaning(edition: Edition, names: [u32; MOST_NESTING], count: usize, varia
 
 // The name of a binder in the body of so many: its own, or in document 01's edition their count.
 fn own_name(edition: Edition, count: usize, word: u32) -> u32
-    requires { count ≤ most-nesting }
-    ensures { (ns : List ℕ) → length ns ≡ count → enter edition true (payload-of word) ns ≡ result ∷ ns }
+    requires { count ≤ most_nesting }
+    ensures { (ns : List ℕ) → length ns ≡ count → enter edition true (payload_of word) ns ≡ result ∷ ns }
 {
     match edition {
         Edition::Names => payload_of(word),
@@ -70,8 +70,8 @@ pub fn entered(
     k: u32,
     word: u32,
 ) -> [u32; MOST_NESTING]
-    requires { (count < most-nesting) × (kind-node ≤ k) × (k ≤ kind-binder) }
-    ensures { scope result (count + (k - kind-node)) ≡ enter-by edition k word (scope names count) }
+    requires { (count < most_nesting) × (kind_node ≤ k) × (k ≤ kind_binder) }
+    ensures { scope result (count + (k - kind_node)) ≡ enter_by edition k word (scope names count) }
 {
     let mut inner = names;
     if k == BINDER {
@@ -82,8 +82,8 @@ pub fn entered(
 
 // The word, of the kind k, in the other edition: a binder has the name there that it gets in the body of so many.
 pub fn relabelled(edition: Edition, count: usize, k: u32, word: u32) -> u32
-    requires { count ≤ most-nesting }
-    ensures { (ns : List ℕ) → length ns ≡ count → result ≡ relabel-by edition k word ns }
+    requires { count ≤ most_nesting }
+    ensures { (ns : List ℕ) → length ns ≡ count → result ≡ relabel_by edition k word ns }
 {
     if k == BINDER {
         let bare = tag_of(word) * PAYLOADS;

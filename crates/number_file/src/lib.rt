@@ -1,8 +1,10 @@
 // Numbers in a file's lines, in decimal: read from its bytes, and put into a buffer.
+#![tactic(auto)]
+
 ghost use Rattle.std.specs.Prelude.{◌≡◌, ◌+◌, ◌*◌, ◌≤◌, length};
 ghost use Rattle.std.proofs.Math.Option.{none};
-ghost use Rattle.decimal.specs.Decimal.{feed, comma, number-bytes, Put};
-ghost use Rattle.number_file.specs.NumberFile.{digit, numbers, starts_with, file, fields, so_far, digit-answer, ReadAs};
+ghost use Rattle.decimal.specs.Decimal.{feed, comma, number_bytes, Put};
+ghost use Rattle.number_file.specs.NumberFile.{digit, numbers, starts_with, file, fields, so_far, digit_answer, ReadAs};
 
 use decimal::put_number;
 
@@ -26,7 +28,7 @@ pub enum Numbers {
 
 // The number so far, if it has begun, with one byte more.
 fn push(begun: bool, value: u32, byte: u8) -> Digit
-    ensures { digit-answer result ≡ digit (so_far begun value) byte }
+    ensures { digit_answer result ≡ digit (so_far begun value) byte }
 {
     if byte < b'0' {
         return Digit::Wrong;
@@ -122,7 +124,7 @@ pub fn read(bytes: &[u8], heading: &[u8], first: u8, words: &mut [u32]) -> Numbe
 
 // Puts a number and a comma, a number and a line feed, and so on.
 pub fn put_fields(words: &[u32], out: &mut [u8], to: usize) -> usize
-    requires { to + number-bytes * length words.now ≤ length out.old }
+    requires { to + number_bytes * length words.now ≤ length out.old }
     ensures { Put out.old to (fields comma feed words.now) out.new result }
 {
     let mut end = to;

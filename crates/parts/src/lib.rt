@@ -1,4 +1,6 @@
 // Parts of lists of words: where a term ends, whether two are the same, copies; where a type stands; propositions.
+#![tactic(auto)]
+
 pub mod lookup;
 pub mod proposition;
 

@@ -5,96 +5,96 @@ use mathlib.Core.List.{List, [], ◌∷◌, ◌++◌}
 use native.Mathlib.Omega.{arith}
 use native.Mathlib.Decide.{ℕ_discrete}
 use Rattle.logic.specs.Term.{size, encode}
-use Rattle.logic.specs.Move.{shift, fill-at, occurs}
-use Rattle.logic.specs.Reading.{read, too-deep, first-miss}
-use Rattle.logic.specs.Infer.{infer, same-term, conclusion}
+use Rattle.logic.specs.Move.{shift, fill_at, occurs}
+use Rattle.logic.specs.Reading.{read, too_deep, first_miss}
+use Rattle.logic.specs.Infer.{infer, same_term, conclusion}
 use lib.ListN.{length, drop, replicate, length-append}
 use Rattle.logic.specs.Worked.{listed, rule}
 use Rattle.logic.specs.SignatureList.{constants, operations}
-use Rattle.register.specs.Records.{latest, records, words_of, statements-from, same-words, some_of}
+use Rattle.register.specs.Records.{latest, records, words_of, statements_from, same_words, some_of}
 use Rattle.register.specs.Calls.{opening}
-use Rattle.register.specs.Marks.{standing, others, up_to, marks-words, front-marks}
+use Rattle.register.specs.Marks.{standing, others, up_to, marks_words, front_marks}
 use Rattle.register.specs.History.{run}
-use Rattle.register.specs.Trials.{trial-run, trial-answers, trail}
-use Rattle.register.specs.MarkGuards.{said-as, MarkGuards}
+use Rattle.register.specs.Trials.{trial_run, trial_answers, trail}
+use Rattle.register.specs.MarkGuards.{said_as, MarkGuards}
 
 -- two registers with one front of four words or more have one latest day
-same-day : (front behind behind' : List ℕ) → 4 ≤ length front → (4 ∷ 0 ∷ 5 ∷ 1 ∷ 7 ∷ []) ≡ front ++ behind →
+same_day : (front behind behind' : List ℕ) → 4 ≤ length front → (4 ∷ 0 ∷ 5 ∷ 1 ∷ 7 ∷ []) ≡ front ++ behind →
     (4 ∷ 0 ∷ 6 ∷ 1 ∷ 7 ∷ []) ≡ front ++ behind' → ⊥
-same-day [] behind behind' l e e' = omega arith
-same-day (a ∷ []) behind behind' l e e' = omega arith
-same-day (a ∷ b ∷ []) behind behind' l e e' = omega arith
-same-day (a ∷ b ∷ c ∷ rest) behind behind' l e e' = omega (arith, ap latest e, ap latest e')
+same_day [] behind behind' l e e' = omega arith
+same_day (a ∷ []) behind behind' l e e' = omega arith
+same_day (a ∷ b ∷ []) behind behind' l e e' = omega arith
+same_day (a ∷ b ∷ c ∷ rest) behind behind' l e e' = omega (arith, ap latest e, ap latest e')
 
-pub mark-guards : MarkGuards
-unfolding infer same-term conclusion read too-deep first-miss shift fill-at occurs size encode ℕ_discrete constants operations records
-    words_of statements-from same-words some_of opening run listed standing others up_to marks-words front-marks trial-run trial-answers trail
-mark-guards = record {
-  for-release = refl;
-  for-trial = refl;
-  open-other = refl;
-  read-other = refl;
-  opened-list = refl;
-  opened-none = refl;
-  opened-other = refl;
-  refused-list = refl;
-  set-one = refl;
-  set-two = refl;
-  set-again = refl;
+pub mark_guards : MarkGuards
+unfolding infer same_term conclusion read too_deep first_miss shift fill_at occurs size encode ℕ_discrete constants operations records
+    words_of statements_from same_words some_of opening run listed standing others up_to marks_words front_marks trial_run trial_answers trail
+mark_guards = record {
+  for_release = refl;
+  for_trial = refl;
+  open_other = refl;
+  read_other = refl;
+  opened_list = refl;
+  opened_none = refl;
+  opened_other = refl;
+  refused_list = refl;
+  set_one = refl;
+  set_two = refl;
+  set_again = refl;
   set_twice = refl;
-  set-largest = refl;
+  set_largest = refl;
   ninth = refl;
-  eight-again = refl;
+  eight_again = refl;
   eighth = refl;
   restores = refl;
-  keeps-words = refl;
-  reads-no-more = refl;
-  restores-last = refl;
+  keeps_words = refl;
+  reads_no_more = refl;
+  restores_last = refl;
   removes = refl;
-  removes-none = refl;
-  first-of-two = refl;
-  removes-second = refl;
-  still-stands = refl;
+  removes_none = refl;
+  first_of_two = refl;
+  removes_second = refl;
+  still_stands = refl;
   set_last = refl;
   full = refl;
   again = refl;
   amounts = refl;
   unsaid = refl;
   unknown = refl;
-  not-standing = refl;
-  at-record = refl;
-  at-header = refl;
-  day-as-kept = refl;
-  within-record = refl;
-  other-count = refl;
-  header-counted = refl;
+  not_standing = refl;
+  at_record = refl;
+  at_header = refl;
+  day_as_kept = refl;
+  within_record = refl;
+  other_count = refl;
+  header_counted = refl;
   past_end = refl;
-  release-mark = refl;
-  release-ninth = refl;
-  release-return = refl;
+  release_mark = refl;
+  release_ninth = refl;
+  release_return = refl;
   too_short = refl;
   broken = refl;
-  return-short = refl;
-  return-broken = refl;
-  short-list = refl;
-  long-list = refl;
-  long-full = refl;
-  count-over = refl;
-  return-over = refl;
+  return_short = refl;
+  return_broken = refl;
+  short_list = refl;
+  long_list = refl;
+  long_full = refl;
+  count_over = refl;
+  return_over = refl;
   read_none = refl;
   unread = record {
     front = 22 ∷ 1 ∷ 0 ∷ 1 ∷ 1 ∷ 16 ∷ 0 ∷ 10 ∷ 20 ∷ encode rule;
-    behind = drop 22 (said-as 1);
+    behind = drop 22 (said_as 1);
     behind' = replicate 49 0;
     words = refl;
     words' = refl;
-    whole-header = omega arith;
-    all-used = omega arith;
+    whole_header = omega arith;
+    all_used = omega arith;
     as_long = refl;
   };
   other_length = λ f.
       let l = length-append f.front f.behind in
       let l' = length-append f.front f.behind' in
       omega (arith, ap length f.words, ap length f.words', f.as_long);
-  other-day = λ f. same-day f.front f.behind f.behind' f.whole-header f.words f.words';
+  other_day = λ f. same_day f.front f.behind f.behind' f.whole_header f.words f.words';
 }

@@ -3,32 +3,32 @@
 use Rattle.std.specs.Prelude.{ℕ, ◌+◌, ◌≤◌, ◌<◌, ◌≡◌, ◌≢◌, ◌↔◌, Bool, true, false, List, [], ◌∷◌, ◌++◌, length}
 use Rattle.std.proofs.Math.Option.{Option, some, none}
 use Rattle.std.proofs.Math.ListN.{get_elem?}
-use Rattle.logic.specs.Limits.{payloads, least-workspace, most-register, most-operations}
+use Rattle.logic.specs.Limits.{payloads, least_workspace, most_register, most_operations}
 use Rattle.logic.specs.Term.{Term, P, S, Pi, encode}
 use Rattle.logic.specs.Typing.{Has}
 use Rattle.logic.specs.Scope.{Signature}
 use Rattle.logic.specs.Result.{ok}
 use Rattle.logic.specs.Reading.{Embedded}
 use Rattle.logic.specs.Check.{Passes, Stated}
-use Rattle.logic.specs.SignatureList.{Lists, permit, receipt-of}
-use Rattle.register.specs.Records.{Record, Statement, Ask, Content, whole, header, RegisterMode, Unbroken, used, used-by, words_of, Held}
-use Rattle.register.specs.Records.{States, statement, rule-kind}
-use Rattle.register.specs.Records.{next-rule, appended, trial}
-use Rattle.register.specs.Calls.{Lent, permission, say-entry, entry, check-call, say-call, request-call, open-call}
-use Rattle.register.specs.Batch.{most-items, ItemsOf, all-granted, batch-call}
-use Rattle.register.specs.Marks.{Mark, mark_of, MarkList, Others, StandsFirst, Ends, spot-at-end, Returned, mark-call, return-call}
+use Rattle.logic.specs.SignatureList.{Lists, permit, receipt_of}
+use Rattle.register.specs.Records.{Record, Statement, Ask, Content, whole, header, RegisterMode, Unbroken, used, used_by, words_of, Held}
+use Rattle.register.specs.Records.{States, statement, rule_kind}
+use Rattle.register.specs.Records.{next_rule, appended, trial}
+use Rattle.register.specs.Calls.{Lent, permission, say_entry, entry, check_call, say_call, request_call, open_call}
+use Rattle.register.specs.Batch.{most_items, ItemsOf, all_granted, batch_call}
+use Rattle.register.specs.Marks.{Mark, mark_of, MarkList, Others, StandsFirst, Ends, spot_at_end, Returned, mark_call, return_call}
 
 -- what every call but read needs of what it is lent; Σ are the
 -- constants' types, and then a signature in the sense of Scope
 pub record Ready (l : Lent) (len : ℕ) (Σ : List Term) : Type 0 where
-  pub workspace : least-workspace ≤ l.workspace
-  pub not-shorter : header ≤ len
-  pub not-longer : len ≤ most-register
+  pub workspace : least_workspace ≤ l.workspace
+  pub not_shorter : header ≤ len
+  pub not_longer : len ≤ most_register
   pub accepted : Lists [] l.sig Σ
-  pub some-operation : 1 ≤ l.n
-  pub not_more : l.n ≤ most-operations
+  pub some_operation : 1 ≤ l.n
+  pub not_more : l.n ≤ most_operations
   pub permits : (i : ℕ) → i < l.n → get_elem? Σ (permit i) ≡ some (Pi S P)
-  pub receipts : (i : ℕ) → i < l.n → get_elem? Σ (receipt-of i) ≡ some (Pi S (Pi S P))
+  pub receipts : (i : ℕ) → i < l.n → get_elem? Σ (receipt_of i) ≡ some (Pi S (Pi S P))
 
 -- every Sign embedded in t is held by a statement that covers
 -- the day: "one nested in a proposition or a domain counts too"
@@ -52,13 +52,13 @@ pub record Grantable (l : Lent) (reg : List ℕ) (k : Ask) : Type 0 where
   pub extract : k.extract < payloads
   pub delivery : k.delivery < payloads
   pub proof : Checkable l reg k.day k.proof (permission k)
-  pub not-before : proof.content.latest ≤ k.day
+  pub not_before : proof.content.latest ≤ k.day
   pub room : used reg + length (words_of (entry k)) ≤ length reg
 
 -- requests that are granted one after another, each on the register that those before it leave
 pub data GrantableInTurn (l : Lent) : List ℕ → List (Option Ask) → Type 0 where
-  no-request : {reg : List ℕ} → GrantableInTurn l reg []
-  one-request : {reg : List ℕ} {k : Ask} {xs : List (Option Ask)} → Grantable l reg k → GrantableInTurn l (appended reg k.day (entry k)) xs →
+  no_request : {reg : List ℕ} → GrantableInTurn l reg []
+  one_request : {reg : List ℕ} {k : Ask} {xs : List (Option Ask)} → Grantable l reg k → GrantableInTurn l (appended reg k.day (entry k)) xs →
       GrantableInTurn l reg (some k ∷ xs)
 
 -- an empty batch succeeds
@@ -67,17 +67,17 @@ pub record Idle (l : Lent) (reg : List ℕ) (day : ℕ) : Type 0 where
   pub unbroken : Unbroken reg content
   pub Σ : List Term
   pub ready : Ready l (length reg) Σ
-  pub not-before : content.latest ≤ day
+  pub not_before : content.latest ≤ day
 
 -- a batch of the items succeeds
 pub data Batchable (l : Lent) (reg : List ℕ) (day : ℕ) : List (Option Ask) → Type 0 where
   empty : Idle l reg day → Batchable l reg day []
-  together : {x : Option Ask} {xs : List (Option Ask)} → length (x ∷ xs) ≤ most-items → GrantableInTurn l reg (x ∷ xs) → Batchable l reg day (x ∷ xs)
+  together : {x : Option Ask} {xs : List (Option Ask)} → length (x ∷ xs) ≤ most_items → GrantableInTurn l reg (x ∷ xs) → Batchable l reg day (x ∷ xs)
 
 -- what a say adds: nothing where the statement stands with the same days, and else it has to fit
 pub data Adds (rs : List Record) (reg : List ℕ) (st : Statement) : Bool → Type 0 where
-  held-before : States rs st → Adds rs reg st false
-  added-now : (States rs st → ⊥) → used reg + length (words_of (say-entry st)) ≤ length reg → Adds rs reg st true
+  held_before : States rs st → Adds rs reg st false
+  added_now : (States rs st → ⊥) → used reg + length (words_of (say_entry st)) ≤ length reg → Adds rs reg st true
 
 -- a say on a day succeeds, and answers whether it added a record
 pub record Sayable (l : Lent) (reg : List ℕ) (day : ℕ) (st : Statement) (added : Bool) : Type 0 where
@@ -87,8 +87,8 @@ pub record Sayable (l : Lent) (reg : List ℕ) (day : ℕ) (st : Statement) (add
   pub ready : Ready l (length reg) Σ
   pub principal : st.principal < payloads
   pub in_order : st.first ≤ st.last
-  pub not-before : content.latest ≤ day
-  pub not-desk : st.principal ≢ 0
+  pub not_before : content.latest ≤ day
+  pub not_desk : st.principal ≢ 0
   pub q : Term
   pub stated : Stated Σ st.principal st.words q
   pub signs : SignsHeld (some day) content.records q
@@ -104,42 +104,42 @@ pub record Ruled (Σ : List Term) (rs : List Record) (st : Statement) (t : Term)
 
 -- behind the rules rs, the words list rules that leave rs': "A repeated rule .. adds no record and succeeds"
 pub data Opens (Σ : List Term) : List Record → List ℕ → List Record → Type 0 where
-  no-rule : {rs : List Record} → Opens Σ rs [] rs
-  new-rule : {rs rs' : List Record} {st : Statement} {ws rest : List ℕ} {t : Term} → next-rule ws ≡ whole st rest → Ruled Σ rs st t →
-      (States rs st → ⊥) → Opens Σ (rs ++ (statement rule-kind st ∷ [])) rest rs' → Opens Σ rs ws rs'
-  repeated-rule : {rs rs' : List Record} {st : Statement} {ws rest : List ℕ} {t : Term} → next-rule ws ≡ whole st rest → Ruled Σ rs st t →
+  no_rule : {rs : List Record} → Opens Σ rs [] rs
+  new_rule : {rs rs' : List Record} {st : Statement} {ws rest : List ℕ} {t : Term} → next_rule ws ≡ whole st rest → Ruled Σ rs st t →
+      (States rs st → ⊥) → Opens Σ (rs ++ (statement rule_kind st ∷ [])) rest rs' → Opens Σ rs ws rs'
+  repeated_rule : {rs rs' : List Record} {st : Statement} {ws rest : List ℕ} {t : Term} → next_rule ws ≡ whole st rest → Ruled Σ rs st t →
       States rs st → Opens Σ rs rest rs' → Opens Σ rs ws rs'
 
 -- an open of a register of the mode succeeds with the records rs
 pub record Openable (l : Lent) (reg : List ℕ) (mode : ℕ) (rules : List ℕ) (rs : List Record) : Type 0 where
   pub Σ : List Term
   pub ready : Ready l (length reg) Σ
-  pub known-mode : RegisterMode mode
+  pub known_mode : RegisterMode mode
   pub opens : Opens Σ [] rules rs
-  pub room : used-by rs ≤ length reg
+  pub room : used_by rs ≤ length reg
 
 -- a register of the mode with the content c, of a length that is in range
 pub record OfMode (mode : ℕ) (reg : List ℕ) (c : Content) : Type 0 where
-  pub not-shorter : header ≤ length reg
-  pub not-longer : length reg ≤ most-register
+  pub not_shorter : header ≤ length reg
+  pub not_longer : length reg ≤ most_register
   pub unbroken : Unbroken reg c
-  pub of-mode : c.mode ≡ mode
+  pub of_mode : c.mode ≡ mode
 
 -- a mark is set at the end of a trial register's records, as no ninth: `after` stand then
 pub record Markable (reg list : List ℕ) (n : ℕ) (after : List Mark) : Type 0 where
   pub content : Content
-  pub on-trial : OfMode trial reg content
+  pub on_trial : OfMode trial reg content
   pub ms : List Mark
   pub listed : MarkList list ms
   pub rest : List Mark
   pub others : Others n ms rest
-  pub no-ninth : length rest < 8
-  pub set : after ≡ rest ++ (mark_of n (spot-at-end content) ∷ [])
+  pub no_ninth : length rest < 8
+  pub set : after ≡ rest ++ (mark_of n (spot_at_end content) ∷ [])
 
 -- a return finds the mark, and it is at an end
 pub record Returnable (reg list : List ℕ) (n : ℕ) (r : Returned) : Type 0 where
   pub content : Content
-  pub on-trial : OfMode trial reg content
+  pub on_trial : OfMode trial reg content
   pub ms : List Mark
   pub listed : MarkList list ms
   pub stands : StandsFirst n r.spot ms r.marks
@@ -147,16 +147,16 @@ pub record Returnable (reg list : List ℕ) (n : ℕ) (r : Returned) : Type 0 wh
 
 -- the second demand
 pub record Demand2 : Type 0 where
-  pub checks : (l : Lent) (reg : List ℕ) (day : ℕ) (ws : List ℕ) (A : Term) → (check-call l reg day ws ≡ ok A) ↔ Checkable l reg day ws A
-  pub grants : (l : Lent) (reg : List ℕ) (k : Ask) → (request-call l reg k ≡ ok tt) ↔ Grantable l reg k
+  pub checks : (l : Lent) (reg : List ℕ) (day : ℕ) (ws : List ℕ) (A : Term) → (check_call l reg day ws ≡ ok A) ↔ Checkable l reg day ws A
+  pub grants : (l : Lent) (reg : List ℕ) (k : Ask) → (request_call l reg k ≡ ok tt) ↔ Grantable l reg k
   pub batches : (l : Lent) (reg : List ℕ) (day : ℕ) (ws : List ℕ) (xs : List (Option Ask)) → ItemsOf day ws xs →
-      (batch-call l reg day ws ≡ all-granted) ↔ Batchable l reg day xs
-  pub says : (l : Lent) (reg : List ℕ) (day : ℕ) (st : Statement) (added : Bool) → (say-call l reg day st ≡ ok added) ↔ Sayable l reg day st added
+      (batch_call l reg day ws ≡ all_granted) ↔ Batchable l reg day xs
+  pub says : (l : Lent) (reg : List ℕ) (day : ℕ) (st : Statement) (added : Bool) → (say_call l reg day st ≡ ok added) ↔ Sayable l reg day st added
   pub opens : (l : Lent) (reg : List ℕ) (mode : ℕ) (rules : List ℕ) (rs : List Record) →
-      (open-call l reg mode rules ≡ ok rs) ↔ Openable l reg mode rules rs
-  pub marks : (reg list : List ℕ) (n : ℕ) (after : List Mark) → (mark-call reg list n ≡ ok after) ↔ Markable reg list n after
-  pub returns : (reg list : List ℕ) (n : ℕ) (r : Returned) → (return-call reg list n ≡ ok r) ↔ Returnable reg list n r
+      (open_call l reg mode rules ≡ ok rs) ↔ Openable l reg mode rules rs
+  pub marks : (reg list : List ℕ) (n : ℕ) (after : List Mark) → (mark_call reg list n ≡ ok after) ↔ Markable reg list n after
+  pub returns : (reg list : List ℕ) (n : ℕ) (r : Returned) → (return_call reg list n ≡ ok r) ↔ Returnable reg list n r
   -- an accepted signature is a signature in the sense of Scope
-  pub well-formed : {l : Lent} {len : ℕ} {Σ : List Term} → Ready l len Σ → Signature Σ
+  pub well_formed : {l : Lent} {len : ℕ} {Σ : List Term} → Ready l len Σ → Signature Σ
   -- a term has at most one type
   pub unique : {Σ Γ : List Term} {t A B : Term} → Has Σ Γ t A → Has Σ Γ t B → A ≡ B

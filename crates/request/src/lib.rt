@@ -1,10 +1,12 @@
 // Request: a grant and its receipt, where the proof is one of the desk's permission.
+#![tactic(auto)]
+
 pub mod tests;
 
 ghost use Rattle.std.specs.Prelude.{◌≡◌};
-ghost use Rattle.words.specs.Verdict.{verdict-answer};
-ghost use Rattle.register.specs.Records.{ask-of};
-ghost use Rattle.register.specs.Calls.{request-call};
+ghost use Rattle.words.specs.Verdict.{verdict_answer};
+ghost use Rattle.register.specs.Records.{ask_of};
+ghost use Rattle.register.specs.Calls.{request_call};
 ghost use Rattle.shared_tests.specs.Shared.{lent_of};
 ghost use Rattle.request.specs.Requested.{RequestedAs};
 
@@ -27,9 +29,9 @@ fn grantable(
     proof: &[u32],
     ws: &mut [u32],
 ) -> Verdict
-    ensures { verdict-answer result ≡
-        request-call (lent_of sig.now n ws.old) register.now
-        (ask-of operation extract delivery day proof.now) }
+    ensures { verdict_answer result ≡
+        request_call (lent_of sig.now n ws.old) register.now
+        (ask_of operation extract delivery day proof.now) }
 {
     let mut table = [0u32; MOST_CONSTANTS];
     let ready = prepare(sig, n, register, &mut table, ws);
@@ -72,7 +74,7 @@ pub fn request(
     ws: &mut [u32],
 ) -> Verdict
     ensures { RequestedAs (lent_of sig.now n ws.old) register.old
-        (ask-of operation extract delivery day proof.now) register.new result }
+        (ask_of operation extract delivery day proof.now) register.new result }
 {
     let tested = grantable(
         sig,

@@ -1,16 +1,16 @@
 // A request's own tests, behind those that calls share: on a register, and behind requests of the same day that are to
 // be granted before it. A batch makes them for each of its items; a request alone has none before it.
 ghost use Rattle.std.specs.Prelude.{◌≡◌, List, ℕ, ◌<◌, ◌≤◌, length};
-ghost use Rattle.logic.specs.Limits.{payloads, most-operations};
+ghost use Rattle.logic.specs.Limits.{payloads, most_operations};
 ghost use Rattle.logic.specs.Term.{Term, size};
-ghost use Rattle.logic.specs.Infer.{same as same-term};
+ghost use Rattle.logic.specs.Infer.{same as same_term};
 ghost use Rattle.words.specs.Place.{Is};
 ghost use Rattle.words.specs.Typed.{TypeAt};
-ghost use Rattle.words.specs.Verdict.{verdict-answer};
+ghost use Rattle.words.specs.Verdict.{verdict_answer};
 ghost use Rattle.typing.specs.Check.{ConstantsOf};
-ghost use Rattle.register.specs.Records.{Content, Ask, ask-of};
-ghost use Rattle.register.specs.Calls.{Lent, view as view_of, outline-of, ask-test, permission, proved-own, request-own};
-ghost use Rattle.register.specs.BatchTests.{view-behind};
+ghost use Rattle.register.specs.Records.{Content, Ask, ask_of};
+ghost use Rattle.register.specs.Calls.{Lent, view as view_of, outline_of, ask_test, permission, proved_own, request_own};
+ghost use Rattle.register.specs.BatchTests.{view_behind};
 ghost use Rattle.request.specs.Requested.{Seen, Provable, Askable};
 
 use logic::limit::{MOST_NESTING, MOST_WORDS};
@@ -27,7 +27,7 @@ use words::verdict::Verdict;
 
 // Test 5 of the call's own numbers.
 fn numbers(n: u32, operation: u32, extract: u32, delivery: u32) -> bool
-    ensures { (day : ℕ) → (proof : List ℕ) → result ≡ ask-test n (ask-of operation extract delivery day proof) }
+    ensures { (day : ℕ) → (proof : List ℕ) → result ≡ ask_test n (ask_of operation extract delivery day proof) }
 {
     if n <= operation {
         return false;
@@ -40,9 +40,9 @@ fn numbers(n: u32, operation: u32, extract: u32, delivery: u32) -> bool
 
 // Test 13: whether the type of n words at the front of the workspace is Says a0 App C2i sv.
 fn permits(ws: &[u32], n: usize, operation: u32, extract: u32) -> bool
-    requires { (n ≤ length ws.now) × (operation < most-operations) × (extract < payloads) }
+    requires { (n ≤ length ws.now) × (operation < most_operations) × (extract < payloads) }
     ensures { (A : Term) → (delivery day : ℕ) → (proof : List ℕ) → TypeAt ws.now 0 A → n ≡ size A
-        → result ≡ same-term A (permission (ask-of operation extract delivery day proof)) }
+        → result ≡ same_term A (permission (ask_of operation extract delivery day proof)) }
 {
     let wanted = [
         SAYS,
@@ -72,8 +72,8 @@ fn proves(
     requires { Provable view register.now buckets.now asked.now day operation extract proof.now ws.now n }
     ensures { (l : Lent) → (Σ : List Term) → (c : Content) → (ks : List Ask) → (delivery : ℕ) → (t A : Term)
         → Seen view register.now asked.now day c ks → Is proof.now t → TypeAt ws.now 0 A → n ≡ size A
-        → verdict-answer result ≡ proved-own (ask-of operation extract delivery day proof.now) (record { term = t; type = A })
-        (view-behind ks day (view_of l (outline-of register.now) c Σ)) }
+        → verdict_answer result ≡ proved_own (ask_of operation extract delivery day proof.now) (record { term = t; type = A })
+        (view_behind ks day (view_of l (outline_of register.now) c Σ)) }
 {
     let wanted = permits(ws, n, operation, extract);
     if !wanted {
@@ -114,8 +114,8 @@ pub fn request_tests(
     requires { Askable sig.now n table.now view register.now buckets.now asked.now day ws.old }
     ensures { (l : Lent) → (Σ : List Term) → (c : Content) → (ks : List Ask) → l.n ≡ n
         → ConstantsOf sig.now table.now Σ → Seen view register.now asked.now day c ks
-        → verdict-answer result ≡ request-own (ask-of operation extract delivery day proof.now)
-        (view-behind ks day (view_of l (outline-of register.now) c Σ)) }
+        → verdict_answer result ≡ request_own (ask_of operation extract delivery day proof.now)
+        (view_behind ks day (view_of l (outline_of register.now) c Σ)) }
 {
     let fine = numbers(n, operation, extract, delivery);
     if !fine {

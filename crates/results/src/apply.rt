@@ -1,6 +1,6 @@
 // The result of an App.
 ghost use Rattle.logic.specs.Term.{Term};
-ghost use Rattle.rules.specs.Rule.{app-type};
+ghost use Rattle.rules.specs.Rule.{app_type};
 ghost use Rattle.rules.specs.Form.{TypeFormed};
 ghost use Rattle.results.specs.Results.{Applies, Appliable};
 
@@ -24,7 +24,7 @@ pub fn apply(
 ) -> Derivation
     requires { Appliable proof.now ws.old next n m end }
     ensures { (d C e E : Term) → Applies proof.now ws.old next n m end d C e E
-        → TypeFormed (app-type at d C e E) end ws.old ws.new result }
+        → TypeFormed (app_type at d C e E) end ws.old ws.new result }
 {
     // behind the word Pi stand the domain's words: the argument's type is the domain exactly if its words stand there
     // too, for no term's words begin another's

@@ -1,6 +1,6 @@
 // The result of a node, from its children and their types.
 ghost use Rattle.logic.specs.Term.{Op, Term};
-ghost use Rattle.rules.specs.Rule.{node-type};
+ghost use Rattle.rules.specs.Rule.{node_type};
 ghost use Rattle.rules.specs.Form.{TypeFormed};
 ghost use Rattle.results.specs.Results.{Forms, Formable};
 
@@ -27,7 +27,7 @@ pub fn formed(
 ) -> Derivation
     requires { Formable proof.now ws.old used at next n m end }
     ensures { (o : Op) → (a b A B : Term) → Forms proof.now ws.old used at next n m end o a b A B
-        → TypeFormed (node-type o at a b A B) end ws.old ws.new result }
+        → TypeFormed (node_type o at a b A B) end ws.old ws.new result }
 {
     let word = proof[at];
     let is_app = word == APP;

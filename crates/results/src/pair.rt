@@ -1,7 +1,7 @@
 // The results of a Lam and of a Ret: a node of the first child and of the second's type.
 ghost use Rattle.std.specs.Prelude.{◌≡◌};
-ghost use Rattle.logic.specs.Term.{Op, Term, op-word};
-ghost use Rattle.rules.specs.Rule.{pair-type};
+ghost use Rattle.logic.specs.Term.{Op, Term, op_word};
+ghost use Rattle.rules.specs.Rule.{pair_type};
 ghost use Rattle.rules.specs.Form.{TypeFormed};
 ghost use Rattle.results.specs.Results.{Pairs, Pairable};
 
@@ -23,8 +23,8 @@ pub fn pair(
     end: usize,
 ) -> Derivation
     requires { Pairable proof.now ws.old at next m }
-    ensures { (o : Op) → (a B : Term) → head ≡ op-word o → Pairs proof.now ws.old at next m a B
-        → TypeFormed (pair-type at o a B) end ws.old ws.new result }
+    ensures { (o : Op) → (a B : Term) → head ≡ op_word o → Pairs proof.now ws.old at next m a B
+        → TypeFormed (pair_type at o a B) end ws.old ws.new result }
 {
     let fine = proposition(&ws[..], 0);
     if !fine {

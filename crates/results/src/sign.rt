@@ -1,7 +1,7 @@
 // The result of a Sign.
 ghost use Rattle.std.specs.Prelude.{ℕ};
 ghost use Rattle.logic.specs.Term.{Term};
-ghost use Rattle.rules.specs.Rule.{sign-type};
+ghost use Rattle.rules.specs.Rule.{sign_type};
 ghost use Rattle.rules.specs.Form.{TypeFormed};
 ghost use Rattle.results.specs.Results.{Signs, Signable};
 
@@ -17,7 +17,7 @@ use rules::front::front_is;
 pub fn sign(proof: &[u32], ws: &mut [u32], at: usize, n: usize, end: usize) -> Derivation
     requires { Signable proof.now ws.old at n end }
     ensures { (a : ℕ) → (q s : Term) → Signs proof.now ws.old at n end a q s
-        → TypeFormed (sign-type at a q s) end ws.old ws.new result }
+        → TypeFormed (sign_type at a q s) end ws.old ws.new result }
 {
     let fine = front_is(&ws[..], PROP);
     if !fine {

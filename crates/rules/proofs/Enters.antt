@@ -9,43 +9,43 @@ use mathlib.Core.Option.{Option, some, none}
 use lib.Dec.{eqb}
 use lib.ListN.{length, take, drop, get_or, length-append}
 use lib.IntN.{pos}
-use Rattle.logic.specs.Limits.{most-type-words}
-use Rattle.logic.specs.Refusals.{condition-fails, not-a-function}
+use Rattle.logic.specs.Limits.{most_type_words}
+use Rattle.logic.specs.Refusals.{condition_fails, not_a_function}
 use Rattle.logic.specs.Result.{Result, ok, refused, ◌>>◌, known}
-use Rattle.logic.specs.Tags.{tag-app, tag-bind, tag-kindP, tag-kindT}
+use Rattle.logic.specs.Tags.{tag_app, tag_bind, tag_kindP, tag_kindT}
 use Rattle.logic.specs.Term.{propA, typeA, kindPA, Op, saysO, piO, lamO, appO, retO, bindO, Op-discrete, Term, atom, var, sign, node, N, Says, word}
-use Rattle.logic.specs.Term.{tag_of, atom-word, op-word, encode, size, first_word}
+use Rattle.logic.specs.Term.{tag_of, atom_word, op_word, encode, size, first_word}
 use Rattle.logic.specs.Move.{raise}
-use Rattle.logic.specs.Reading.{branch, word-shape, PlainType}
+use Rattle.logic.specs.Reading.{branch, word_shape, PlainType}
 use Rattle.logic.specs.Infer.{same, condition, domain, Parts, parts}
 use Rattle.logic.proofs.Basics.{clash}
 use Rattle.logic.proofs.Results.{then_is}
-use Rattle.logic.proofs.Stopped.{stop-then}
-use Rattle.logic.proofs.Words.{head, shape-first, encode-size, shape-op, node-plain, op-below}
-use Rattle.logic.specs.Kind.{kind-binder, op-kind, shape-kind}
+use Rattle.logic.proofs.Stopped.{stop_then}
+use Rattle.logic.proofs.Words.{head, shape_first, encode_size, shape_op, node_plain, op_below}
+use Rattle.logic.specs.Kind.{kind_binder, op_kind, shape_kind}
 use Rattle.words.specs.Place.{At, written_at}
 use Rattle.moves.specs.Shift.{Shifted}
 use Rattle.moves.specs.declared.shift.Shift.{Shift}
 use Rattle.words.specs.Typed.{TypeAt}
-use Rattle.words.proofs.Places.{words-head, at_left}
-use Rattle.words.proofs.Lists.{drop-written, written-before, written-inside}
+use Rattle.words.proofs.Places.{words_head, at_left}
+use Rattle.words.proofs.Lists.{drop_written, written_before, written_inside}
 use Rattle.moves.proofs.Shifts.{length_shift}
 use Rattle.rules.specs.Rule.{ready}
-use Rattle.rules.specs.Scope.{tail, entry-head, binder-entry}
-use Rattle.rules.specs.Form.{front-words, level-words}
-use Rattle.rules.specs.Enter.{Enters, keep-of, entered-answer, EntryKept, Entering, Kept, Keepable}
+use Rattle.rules.specs.Scope.{tail, entry_head, binder_entry}
+use Rattle.rules.specs.Form.{front_words, level_words}
+use Rattle.rules.specs.Enter.{Enters, keep_of, entered_answer, EntryKept, Entering, Kept, Keepable}
 use Rattle.rules.specs.declared.enter.Entered.TheVariants.{Fits, Refused}
-use Rattle.rules.proofs.Fronts.{atom-first, type-part}
-use Rattle.rules.proofs.Kepts.{kept-tail, kept-type, kept-none}
+use Rattle.rules.proofs.Fronts.{atom_first, type_part}
+use Rattle.rules.proofs.Kepts.{kept_tail, kept_type, kept_none}
 
 -- ---- a domain
 
 -- the first word of a type that a domain may have
-abbrev pub domain-word : ℕ → Bool
-domain-word w = eqb w (atom-word typeA) || eqb w (atom-word propA) || eqb w (atom-word kindPA)
+abbrev pub domain_word : ℕ → Bool
+domain_word w = eqb w (atom_word typeA) || eqb w (atom_word propA) || eqb w (atom_word kindPA)
 
-pub domain-first : (A : Term) (w : ℕ) → PlainType A → w ≡ first_word A → domain-word w ≡ domain A
-domain-first A w p e = let is = atom-first A w p e in ap₂ ◌||◌ (ap₂ ◌||◌ (is typeA tt) (is propA tt)) (is kindPA tt)
+pub domain_first : (A : Term) (w : ℕ) → PlainType A → w ≡ first_word A → domain_word w ≡ domain A
+domain_first A w p e = let is = atom_first A w p e in ap₂ ◌||◌ (ap₂ ◌||◌ (is typeA tt) (is propA tt)) (is kindPA tt)
 
 -- ---- a type that is a node
 
@@ -54,93 +54,93 @@ record NodeOf (o : Op) (A : Term) : Type 0 where
   right : Term
   is : A ≡ node o left right
 
-node_of : (o : Op) (A : Term) → PlainType A → first_word A ≡ op-word o → NodeOf o A
-node_of o A (inl p) e = go A (sym (shape-first A p) ∙ ap word-shape e ∙ shape-op o)
+node_of : (o : Op) (A : Term) → PlainType A → first_word A ≡ op_word o → NodeOf o A
+node_of o A (inl p) e = go A (sym (shape_first A p) ∙ ap word_shape e ∙ shape_op o)
   where
     go : (A : Term) → head A ≡ branch o → NodeOf o A
     go (atom a) q = absurd (clash (cc))
     go (var n) q = absurd (clash (cc))
     go (sign n t) q = absurd (clash (cc))
     go (node h x y) q = record { left = x; right = y; is = cc }
-node_of o A (inr (inl k)) e = let q : word tag-kindP 0 ≡ op-word o = sym (ap first_word k) ∙ e in let b = op-below o in absurd (omega arith)
-node_of o A (inr (inr k)) e = let q : word tag-kindT 0 ≡ op-word o = sym (ap first_word k) ∙ e in let b = op-below o in absurd (omega arith)
+node_of o A (inr (inl k)) e = let q : word tag_kindP 0 ≡ op_word o = sym (ap first_word k) ∙ e in let b = op_below o in absurd (omega arith)
+node_of o A (inr (inr k)) e = let q : word tag_kindT 0 ≡ op_word o = sym (ap first_word k) ∙ e in let b = op_below o in absurd (omega arith)
 
-parts-some : (o : Op) (x y : Term) → parts o (node o x y) ≡ some (record { left = x; right = y })
-parts-some o x y = go (Op-discrete o o)
+parts_some : (o : Op) (x y : Term) → parts o (node o x y) ≡ some (record { left = x; right = y })
+parts_some o x y = go (Op-discrete o o)
   where
     go : (d : Dec (o ≡ o)) → ◌≡◌ {A = Option Parts} (elim d [ yes _ ↦ some (record { left = x; right = y }) | no _ ↦ none ])
         (some (record { left = x; right = y }))
     go (yes q) = refl
     go (no q) = absurd (q refl)
 
-parts_none : (o : Op) (A : Term) → (first_word A ≡ op-word o → ⊥) → parts o A ≡ none
+parts_none : (o : Op) (A : Term) → (first_word A ≡ op_word o → ⊥) → parts o A ≡ none
 parts_none o (atom a) n = refl
 parts_none o (var k) n = refl
 parts_none o (sign k t) n = refl
 parts_none o (node h x y) n = go (Op-discrete o h)
   where
     go : (d : Dec (o ≡ h)) → ◌≡◌ {A = Option Parts} (elim d [ yes _ ↦ some (record { left = x; right = y }) | no _ ↦ none ]) none
-    go (yes q) = absurd (n (ap op-word (sym q)))
+    go (yes q) = absurd (n (ap op_word (sym q)))
     go (no q) = refl
 
 -- ---- a Bind's entry
 
-pub says-size : (p q : Term) → size (Says p q) ≡ 1 + size p + size q
+pub says_size : (p q : Term) → size (Says p q) ≡ 1 + size p + size q
 unfolding size
-says-size p q = let e : suc (size p + size q) ≡ 1 + size p + size q = omega arith in e
+says_size p q = let e : suc (size p + size q) ≡ 1 + size p + size q = omega arith in e
 
-bind-length : (at : ℕ) (a p q : Term) → length (binder-entry bindO at a (Says p q)) ≡ entry-head + size (Says p q)
-bind-length at a p q =
+bind_length : (at : ℕ) (a p q : Term) → length (binder_entry bindO at a (Says p q)) ≡ entry_head + size (Says p q)
+bind_length at a p q =
     let m : length (encode (raise 1 p)) ≡ size p = length_shift 0 (pos 1) p in
-    let z : length (encode q) ≡ size q = encode-size q in
+    let z : length (encode q) ≡ size q = encode_size q in
     let l : length (encode (raise 1 p) ++ encode q) ≡ length (encode (raise 1 p)) + length (encode q) = length-append (encode (raise 1 p)) (encode q) in
-    let k : size (Says p q) ≡ 1 + size p + size q = says-size p q in
+    let k : size (Says p q) ≡ 1 + size p + size q = says_size p q in
     omega arith
 
-says-encode : (p q : Term) → encode (Says p q) ≡ (op-word saysO ∷ []) ++ (encode p ++ encode q)
+says_encode : (p q : Term) → encode (Says p q) ≡ (op_word saysO ∷ []) ++ (encode p ++ encode q)
 unfolding encode
-says-encode p q = refl
+says_encode p q = refl
 
 -- the type's words were copied behind the entry's head
-module _ {ws mid : List ℕ} {n : ℕ} {p q : Term} (used : ℕ) (h : TypeAt ws 0 (Says p q)) (s : n ≡ size (Says p q)) (room : used + (entry-head + n) ≤ length ws)
-    (e : mid ≡ written_at ws (length ws - (used + (entry-head + n)) + entry-head) (take n ws)) where
+module _ {ws mid : List ℕ} {n : ℕ} {p q : Term} (used : ℕ) (h : TypeAt ws 0 (Says p q)) (s : n ≡ size (Says p q)) (room : used + (entry_head + n) ≤ length ws)
+    (e : mid ≡ written_at ws (length ws - (used + (entry_head + n)) + entry_head) (take n ws)) where
   copied : take n ws ≡ encode (Says p q)
-  copied = ap (λ (i : ℕ). take i ws) s ∙ type-part h
+  copied = ap (λ (i : ℕ). take i ws) s ∙ type_part h
 
-  pub principal-at : At mid (length ws - (used + (entry-head + n)) + entry-head + 1) p
-  principal-at =
-      let start : ℕ = length ws - (used + (entry-head + n)) + entry-head in
+  pub principal_at : At mid (length ws - (used + (entry_head + n)) + entry_head + 1) p
+  principal_at =
+      let start : ℕ = length ws - (used + (entry_head + n)) + entry_head in
       let i : At mid start (Says p q) = record {
-        plain = node-plain refl h.plain;
+        plain = node_plain refl h.plain;
         rest = drop (start + length (take n ws)) ws;
-        words = ap (drop start) e ∙ drop-written ws (take n ws) start (omega arith) ∙ ap (λ (x : List ℕ). x ++ drop (start + length (take n ws)) ws) copied;
+        words = ap (drop start) e ∙ drop_written ws (take n ws) start (omega arith) ∙ ap (λ (x : List ℕ). x ++ drop (start + length (take n ws)) ws) copied;
       } in
       at_left i
 
   -- its principal was raised, and the entry's head written
-  pub says-kept : {low new : List ℕ} {w : Shift} (at : ℕ) (a : Term) → Shifted p 0 (pos 1) mid (length ws - (used + (entry-head + n)) + entry-head + 1) low w
-      → new ≡ written_at low (length ws - (used + (entry-head + n))) ((entry-head + n) ∷ 0 ∷ (n - 1 - w.words) ∷ [])
-      → Kept (binder-entry bindO at a (Says p q)) used ws new (used + (entry-head + n))
-  says-kept {low} {new} {w} at a f g =
-      let to : ℕ = length ws - (used + (entry-head + n)) in
-      let x : List ℕ = op-word saysO ∷ [] in
-      let k : n ≡ 1 + size p + size q = s ∙ says-size p q in
+  pub says_kept : {low new : List ℕ} {w : Shift} (at : ℕ) (a : Term) → Shifted p 0 (pos 1) mid (length ws - (used + (entry_head + n)) + entry_head + 1) low w
+      → new ≡ written_at low (length ws - (used + (entry_head + n))) ((entry_head + n) ∷ 0 ∷ (n - 1 - w.words) ∷ [])
+      → Kept (binder_entry bindO at a (Says p q)) used ws new (used + (entry_head + n))
+  says_kept {low} {new} {w} at a f g =
+      let to : ℕ = length ws - (used + (entry_head + n)) in
+      let x : List ℕ = op_word saysO ∷ [] in
+      let k : n ≡ 1 + size p + size q = s ∙ says_size p q in
       let c : w.words ≡ size p = f.words_are in
       let m : length (encode (raise 1 p)) ≡ size p = length_shift 0 (pos 1) p in
-      let y : length (encode p) ≡ size p = encode-size p in
+      let y : length (encode p) ≡ size p = encode_size p in
       let t : n - 1 - w.words ≡ size q = omega arith in
-      let u : low ≡ written_at ws (to + entry-head) (x ++ (encode (raise 1 p) ++ encode q)) =
+      let u : low ≡ written_at ws (to + entry_head) (x ++ (encode (raise 1 p) ++ encode q)) =
       f.words
-      ∙ ap (λ (o : List ℕ). written_at o (to + entry-head + 1) (encode (raise 1 p))) (e ∙ ap (written_at ws (to + entry-head)) (copied ∙ says-encode p q))
-      ∙ written-inside ws (to + entry-head) x (encode p) (encode q) (encode (raise 1 p)) (omega arith) (m ∙ sym y) in
-      let xs : List ℕ = binder-entry bindO at a (Says p q) in
-      let r : entry-head + n ≡ length xs = ap (λ (i : ℕ). entry-head + i) s ∙ sym (bind-length at a p q) in
+      ∙ ap (λ (o : List ℕ). written_at o (to + entry_head + 1) (encode (raise 1 p))) (e ∙ ap (written_at ws (to + entry_head)) (copied ∙ says_encode p q))
+      ∙ written_inside ws (to + entry_head) x (encode p) (encode q) (encode (raise 1 p)) (omega arith) (m ∙ sym y) in
+      let xs : List ℕ = binder_entry bindO at a (Says p q) in
+      let r : entry_head + n ≡ length xs = ap (λ (i : ℕ). entry_head + i) s ∙ sym (bind_length at a p q) in
       record {
         count = ap (λ (i : ℕ). used + i) r;
         words = g
-            ∙ ap (λ (o : List ℕ). written_at o to ((entry-head + n) ∷ 0 ∷ (n - 1 - w.words) ∷ [])) u
-            ∙ written-before ws to ((entry-head + n) ∷ 0 ∷ (n - 1 - w.words) ∷ []) (x ++ (encode (raise 1 p) ++ encode q)) (omega arith)
-            ∙ ap₂ (λ (i j : ℕ). written_at ws to (i ∷ 0 ∷ j ∷ (x ++ (encode (raise 1 p) ++ encode q)))) (ap (λ (i : ℕ). entry-head + i) s) t
+            ∙ ap (λ (o : List ℕ). written_at o to ((entry_head + n) ∷ 0 ∷ (n - 1 - w.words) ∷ [])) u
+            ∙ written_before ws to ((entry_head + n) ∷ 0 ∷ (n - 1 - w.words) ∷ []) (x ++ (encode (raise 1 p) ++ encode q)) (omega arith)
+            ∙ ap₂ (λ (i j : ℕ). written_at ws to (i ∷ 0 ∷ j ∷ (x ++ (encode (raise 1 p) ++ encode q)))) (ap (λ (i : ℕ). entry_head + i) s) t
             ∙ ap (λ (i : ℕ). written_at ws (length ws - (used + i)) xs) r;
       }
 
@@ -148,168 +148,168 @@ module _ {ws mid : List ℕ} {n : ℕ} {p q : Term} (used : ℕ) (h : TypeAt ws 
 
 record Rule (o : Op) (at : ℕ) (a A : Term) (n : ℕ) (test : Result (Unit {0})) (xs : List ℕ) (keep : ℕ) : Type 0 where
   tests : ready o at A ≡ test
-  keeps : binder-entry o at a A ≡ xs
-  front : keep-of o n ≡ keep
+  keeps : binder_entry o at a A ≡ xs
+  front : keep_of o n ≡ keep
 
 -- the test of App and of Bind: the first child's type is a node of the kind h, or the refusal has the number m
-abbrev node-test : (m : ℕ) → Op → ℕ → Term → Result (Unit {0})
-node-test m h at A = known m at (parts h A) >> ok tt
+abbrev node_test : (m : ℕ) → Op → ℕ → Term → Result (Unit {0})
+node_test m h at A = known m at (parts h A) >> ok tt
 
-app-rule : (o : Op) (at : ℕ) (a A : Term) (n w : ℕ) → w ≡ op-word o → tag_of w ≡ tag-app → Rule o at a A n (node-test not-a-function piO at A) [] n
+app_rule : (o : Op) (at : ℕ) (a A : Term) (n w : ℕ) → w ≡ op_word o → tag_of w ≡ tag_app → Rule o at a A n (node_test not_a_function piO at A) [] n
 unfolding ready
-app-rule saysO at a A n w e t = absurd (omega arith)
-app-rule piO at a A n w e t = absurd (omega arith)
-app-rule lamO at a A n w e t = absurd (omega arith)
-app-rule appO at a A n w e t = record { tests = refl; keeps = refl; front = refl }
-app-rule retO at a A n w e t = absurd (omega arith)
-app-rule bindO at a A n w e t = absurd (omega arith)
+app_rule saysO at a A n w e t = absurd (omega arith)
+app_rule piO at a A n w e t = absurd (omega arith)
+app_rule lamO at a A n w e t = absurd (omega arith)
+app_rule appO at a A n w e t = record { tests = refl; keeps = refl; front = refl }
+app_rule retO at a A n w e t = absurd (omega arith)
+app_rule bindO at a A n w e t = absurd (omega arith)
 
-bind-rule : (o : Op) (at : ℕ) (a A : Term) (n w : ℕ) → w ≡ op-word o → tag_of w ≡ tag-bind
-    → Rule o at a A n (node-test condition-fails saysO at A) (binder-entry bindO at a A) 0
+bind_rule : (o : Op) (at : ℕ) (a A : Term) (n w : ℕ) → w ≡ op_word o → tag_of w ≡ tag_bind
+    → Rule o at a A n (node_test condition_fails saysO at A) (binder_entry bindO at a A) 0
 unfolding ready
-bind-rule saysO at a A n w e t = absurd (omega arith)
-bind-rule piO at a A n w e t = absurd (omega arith)
-bind-rule lamO at a A n w e t = absurd (omega arith)
-bind-rule appO at a A n w e t = absurd (omega arith)
-bind-rule retO at a A n w e t = absurd (omega arith)
-bind-rule bindO at a A n w e t = record { tests = refl; keeps = refl; front = refl }
+bind_rule saysO at a A n w e t = absurd (omega arith)
+bind_rule piO at a A n w e t = absurd (omega arith)
+bind_rule lamO at a A n w e t = absurd (omega arith)
+bind_rule appO at a A n w e t = absurd (omega arith)
+bind_rule retO at a A n w e t = absurd (omega arith)
+bind_rule bindO at a A n w e t = record { tests = refl; keeps = refl; front = refl }
 
-kind-op : (o : Op) → shape-kind (word-shape (op-word o)) ≡ op-kind o
-kind-op o = ap shape-kind (shape-op o)
+kind_op : (o : Op) → shape_kind (word_shape (op_word o)) ≡ op_kind o
+kind_op o = ap shape_kind (shape_op o)
 
 -- of Pi and Lam
-binder-rule : (o : Op) (at : ℕ) (a A : Term) (n w : ℕ) → w ≡ op-word o → (tag_of w ≡ tag-bind → ⊥) → op-kind o ≡ kind-binder
-    → Rule o at a A n (condition at (domain A)) (entry-head ∷ (at + 1) ∷ size a ∷ []) 0
+binder_rule : (o : Op) (at : ℕ) (a A : Term) (n w : ℕ) → w ≡ op_word o → (tag_of w ≡ tag_bind → ⊥) → op_kind o ≡ kind_binder
+    → Rule o at a A n (condition at (domain A)) (entry_head ∷ (at + 1) ∷ size a ∷ []) 0
 unfolding ready
-binder-rule saysO at a A n w e q k = absurd (omega arith)
-binder-rule piO at a A n w e q k = record { tests = refl; keeps = refl; front = refl }
-binder-rule lamO at a A n w e q k = record { tests = refl; keeps = refl; front = refl }
-binder-rule appO at a A n w e q k = absurd (omega arith)
-binder-rule retO at a A n w e q k = absurd (omega arith)
-binder-rule bindO at a A n w e q k = absurd (q (omega arith))
+binder_rule saysO at a A n w e q k = absurd (omega arith)
+binder_rule piO at a A n w e q k = record { tests = refl; keeps = refl; front = refl }
+binder_rule lamO at a A n w e q k = record { tests = refl; keeps = refl; front = refl }
+binder_rule appO at a A n w e q k = absurd (omega arith)
+binder_rule retO at a A n w e q k = absurd (omega arith)
+binder_rule bindO at a A n w e q k = absurd (q (omega arith))
 
 -- of Says and Ret
-plain-rule : (o : Op) (at : ℕ) (a A : Term) (n w : ℕ) → w ≡ op-word o → (tag_of w ≡ tag-app → ⊥) → (op-kind o ≡ kind-binder → ⊥)
+plain_rule : (o : Op) (at : ℕ) (a A : Term) (n w : ℕ) → w ≡ op_word o → (tag_of w ≡ tag_app → ⊥) → (op_kind o ≡ kind_binder → ⊥)
     → Rule o at a A n (condition at (same A N)) [] 0
 unfolding ready
-plain-rule saysO at a A n w e q k = record { tests = refl; keeps = refl; front = refl }
-plain-rule piO at a A n w e q k = absurd (k refl)
-plain-rule lamO at a A n w e q k = absurd (k refl)
-plain-rule appO at a A n w e q k = absurd (q (omega arith))
-plain-rule retO at a A n w e q k = record { tests = refl; keeps = refl; front = refl }
-plain-rule bindO at a A n w e q k = absurd (k refl)
+plain_rule saysO at a A n w e q k = record { tests = refl; keeps = refl; front = refl }
+plain_rule piO at a A n w e q k = absurd (k refl)
+plain_rule lamO at a A n w e q k = absurd (k refl)
+plain_rule appO at a A n w e q k = absurd (q (omega arith))
+plain_rule retO at a A n w e q k = record { tests = refl; keeps = refl; front = refl }
+plain_rule bindO at a A n w e q k = absurd (k refl)
 
 module _ {o : Op} {at : ℕ} {a A : Term} {n : ℕ} {test : Result (Unit {0})} {xs : List ℕ} {keep : ℕ} (rule : Rule o at a A n test xs keep) where
   passes : (used : ℕ) (old new : List ℕ) (r : ℕ) → test ≡ ok tt → Kept xs used old new r → used + length xs + size A ≤ length old → TypeAt old 0 A
       → Entering o at a A n used old new (Fits keep r)
   passes used old new r e k l h =
-      let x : binder-entry o at a A ≡ xs = rule.keeps in
+      let x : binder_entry o at a A ≡ xs = rule.keeps in
       let t = rule.tests ∙ e in
       record {
         answer =
-            ap₂ (λ (i j : ℕ). entered-answer at (Fits i j)) (sym rule.front) (k.count ∙ ap (λ (y : List ℕ). used + length y) (sym x))
+            ap₂ (λ (i j : ℕ). entered_answer at (Fits i j)) (sym rule.front) (k.count ∙ ap (λ (y : List ℕ). used + length y) (sym x))
             ∙ sym (then_is _ t refl);
         kept = subst (λ (u : Result (Unit {0})). EntryKept u o at a A used old new) (sym t) (
-          ap (λ (y : List ℕ). tail (used + length y) new) x ∙ kept-tail xs old new used r (omega arith) k ∙ ap (λ (y : List ℕ). y ++ tail used old) (sym x),
-          kept-type xs old new used r (omega arith) k A l h,
+          ap (λ (y : List ℕ). tail (used + length y) new) x ∙ kept_tail xs old new used r (omega arith) k ∙ ap (λ (y : List ℕ). y ++ tail used old) (sym x),
+          kept_type xs old new used r (omega arith) k A l h,
         );
       }
 
   fails : {m : ℕ} (used : ℕ) (old : List ℕ) → test ≡ refused m at → Entering o at a A n used old old (Refused m)
   fails used old e =
       let t = rule.tests ∙ e in
-      record { answer = sym (stop-then _ t); kept = subst (λ (u : Result (Unit {0})). EntryKept u o at a A used old old) (sym t) refl }
+      record { answer = sym (stop_then _ t); kept = subst (λ (u : Result (Unit {0})). EntryKept u o at a A used old old) (sym t) refl }
 
 -- ---- the answers
 
-module _ {proof ws : List ℕ} {at next n : ℕ} {o : Op} {a A : Term} (used : ℕ) (room : used + level-words + front-words ≤ length ws)
-    (small : n ≤ most-type-words) (j : Enters proof ws at next n o a A) where
-  front-first : get_or ws 0 0 ≡ first_word A
-  front-first = words-head ws 0 A j.type.rest j.type.words
+module _ {proof ws : List ℕ} {at next n : ℕ} {o : Op} {a A : Term} (used : ℕ) (room : used + level_words + front_words ≤ length ws)
+    (small : n ≤ most_type_words) (j : Enters proof ws at next n o a A) where
+  front_first : get_or ws 0 0 ≡ first_word A
+  front_first = words_head ws 0 A j.type.rest j.type.words
 
   -- nothing is kept at the end
   passes_none : {test : Result (Unit {0})} {keep : ℕ} → Rule o at a A n test [] keep → test ≡ ok tt → Entering o at a A n used ws ws (Fits keep used)
-  passes_none rule e = let w : n ≡ size A = j.type-words in passes rule used ws ws used e (kept-none ws used) (omega arith) j.type
+  passes_none rule e = let w : n ≡ size A = j.type_words in passes rule used ws ws used e (kept_none ws used) (omega arith) j.type
 
-  node-passes : (m : ℕ) (h : Op) → get_or ws 0 0 ≡ op-word h → node-test m h at A ≡ ok tt
-  node-passes m h e =
-      let i = node_of h A j.type.plain (sym front-first ∙ e) in
-      ap (λ (B : Term). node-test m h at B) i.is ∙ ap (λ (x : Option Parts). known m at x >> ok tt) (parts-some h i.left i.right)
+  node_passes : (m : ℕ) (h : Op) → get_or ws 0 0 ≡ op_word h → node_test m h at A ≡ ok tt
+  node_passes m h e =
+      let i = node_of h A j.type.plain (sym front_first ∙ e) in
+      ap (λ (B : Term). node_test m h at B) i.is ∙ ap (λ (x : Option Parts). known m at x >> ok tt) (parts_some h i.left i.right)
 
-  node-fails : (m : ℕ) (h : Op) → (get_or ws 0 0 ≡ op-word h → ⊥) → node-test m h at A ≡ refused m at
-  node-fails m h q = ap (λ (x : Option Parts). known m at x >> ok tt) (parts_none h A λ e. q (front-first ∙ e))
+  node_fails : (m : ℕ) (h : Op) → (get_or ws 0 0 ≡ op_word h → ⊥) → node_test m h at A ≡ refused m at
+  node_fails m h q = ap (λ (x : Option Parts). known m at x >> ok tt) (parts_none h A λ e. q (front_first ∙ e))
 
-  pub app-passes : tag_of (get_or proof at 0) ≡ tag-app → get_or ws 0 0 ≡ op-word piO → Entering o at a A n used ws ws (Fits n used)
-  app-passes t e = passes_none (app-rule o at a A n _ j.head t) (node-passes _ piO e)
+  pub app_passes : tag_of (get_or proof at 0) ≡ tag_app → get_or ws 0 0 ≡ op_word piO → Entering o at a A n used ws ws (Fits n used)
+  app_passes t e = passes_none (app_rule o at a A n _ j.head t) (node_passes _ piO e)
 
-  pub app-fails : tag_of (get_or proof at 0) ≡ tag-app → (get_or ws 0 0 ≡ op-word piO → ⊥) → Entering o at a A n used ws ws (Refused not-a-function)
-  app-fails t q = fails (app-rule o at a A n _ j.head t) used ws (node-fails _ piO q)
+  pub app_fails : tag_of (get_or proof at 0) ≡ tag_app → (get_or ws 0 0 ≡ op_word piO → ⊥) → Entering o at a A n used ws ws (Refused not_a_function)
+  app_fails t q = fails (app_rule o at a A n _ j.head t) used ws (node_fails _ piO q)
 
   -- what `keep_says` asks
-  pub bind-keeps : get_or ws 0 0 ≡ op-word saysO → Keepable ws used n
-  bind-keeps e =
-      let i = node_of saysO A j.type.plain (sym front-first ∙ e) in
+  pub bind_keeps : get_or ws 0 0 ≡ op_word saysO → Keepable ws used n
+  bind_keeps e =
+      let i = node_of saysO A j.type.plain (sym front_first ∙ e) in
       record {
         p = i.left;
         q = i.right;
         type = subst (TypeAt ws 0) i.is j.type;
-        type-words = j.type-words ∙ ap size i.is;
+        type_words = j.type_words ∙ ap size i.is;
         small = small;
         room = room;
       }
 
-  pub bind-passes : {new : List ℕ} {r : ℕ} → tag_of (get_or proof at 0) ≡ tag-bind → get_or ws 0 0 ≡ op-word saysO
-      → ((i : ℕ) (b p q : Term) → TypeAt ws 0 (Says p q) → n ≡ size (Says p q) → Kept (binder-entry bindO i b (Says p q)) used ws new r)
+  pub bind_passes : {new : List ℕ} {r : ℕ} → tag_of (get_or proof at 0) ≡ tag_bind → get_or ws 0 0 ≡ op_word saysO
+      → ((i : ℕ) (b p q : Term) → TypeAt ws 0 (Says p q) → n ≡ size (Says p q) → Kept (binder_entry bindO i b (Says p q)) used ws new r)
       → Entering o at a A n used ws new (Fits 0 r)
-  bind-passes {new} {r} t e f =
-      let i = node_of saysO A j.type.plain (sym front-first ∙ e) in
+  bind_passes {new} {r} t e f =
+      let i = node_of saysO A j.type.plain (sym front_first ∙ e) in
       let p : Term = i.left in
       let q : Term = i.right in
-      let w : n ≡ size A = j.type-words in
-      let k : Kept (binder-entry bindO at a A) used ws new r = subst (λ (B : Term). Kept (binder-entry bindO at a B) used ws new r) (sym i.is)
+      let w : n ≡ size A = j.type_words in
+      let k : Kept (binder_entry bindO at a A) used ws new r = subst (λ (B : Term). Kept (binder_entry bindO at a B) used ws new r) (sym i.is)
       (f at a p q (subst (TypeAt ws 0) i.is j.type) (w ∙ ap size i.is)) in
-      let l : length (binder-entry bindO at a A) ≡ entry-head + size A = ap (λ (B : Term). length (binder-entry bindO at a B)) i.is ∙ bind-length at a p q
-      ∙ ap (λ (B : Term). entry-head + size B) (sym i.is) in
-      passes (bind-rule o at a A n _ j.head t) used ws new r (node-passes _ saysO e) k (omega arith) j.type
+      let l : length (binder_entry bindO at a A) ≡ entry_head + size A = ap (λ (B : Term). length (binder_entry bindO at a B)) i.is ∙ bind_length at a p q
+      ∙ ap (λ (B : Term). entry_head + size B) (sym i.is) in
+      passes (bind_rule o at a A n _ j.head t) used ws new r (node_passes _ saysO e) k (omega arith) j.type
 
-  pub bind-fails : tag_of (get_or proof at 0) ≡ tag-bind → (get_or ws 0 0 ≡ op-word saysO → ⊥) → Entering o at a A n used ws ws (Refused condition-fails)
-  bind-fails t q = fails (bind-rule o at a A n _ j.head t) used ws (node-fails _ saysO q)
+  pub bind_fails : tag_of (get_or proof at 0) ≡ tag_bind → (get_or ws 0 0 ≡ op_word saysO → ⊥) → Entering o at a A n used ws ws (Refused condition_fails)
+  bind_fails t q = fails (bind_rule o at a A n _ j.head t) used ws (node_fails _ saysO q)
 
   -- what `kind` answers
-  kind-found : (k : ℕ) → k ≡ shape-kind (word-shape (get_or proof at 0)) → op-kind o ≡ k
-  kind-found k e = sym (e ∙ ap (λ (w : ℕ). shape-kind (word-shape w)) j.head ∙ kind-op o)
+  kind_found : (k : ℕ) → k ≡ shape_kind (word_shape (get_or proof at 0)) → op_kind o ≡ k
+  kind_found k e = sym (e ∙ ap (λ (w : ℕ). shape_kind (word_shape w)) j.head ∙ kind_op o)
 
   -- what `domain` answers
   abbrev Answers : Bool → Type 0
   Answers b = (s : Term) → PlainType s → get_or ws 0 0 ≡ first_word s → b ≡ domain s
 
-  domain-is : (b : Bool) → Answers b → b ≡ domain A
-  domain-is b f = f A j.type.plain front-first
+  domain_is : (b : Bool) → Answers b → b ≡ domain A
+  domain_is b f = f A j.type.plain front_first
 
-  pub binder-passes : {new : List ℕ} {r k : ℕ} {b : Bool} → (tag_of (get_or proof at 0) ≡ tag-bind → ⊥) → k ≡ shape-kind (word-shape (get_or proof at 0))
-      → k ≡ kind-binder
-      → b ≡ true → Answers b → Kept (entry-head ∷ (at + 1) ∷ (next - (at + 1)) ∷ []) used ws new r → Entering o at a A n used ws new (Fits 0 r)
-  binder-passes {new} {r} {k} {b} t e i d f g =
-      let w : n ≡ size A = j.type-words in
-      let x : next ≡ at + 1 + size a = j.next-is in
+  pub binder_passes : {new : List ℕ} {r k : ℕ} {b : Bool} → (tag_of (get_or proof at 0) ≡ tag_bind → ⊥) → k ≡ shape_kind (word_shape (get_or proof at 0))
+      → k ≡ kind_binder
+      → b ≡ true → Answers b → Kept (entry_head ∷ (at + 1) ∷ (next - (at + 1)) ∷ []) used ws new r → Entering o at a A n used ws new (Fits 0 r)
+  binder_passes {new} {r} {k} {b} t e i d f g =
+      let w : n ≡ size A = j.type_words in
+      let x : next ≡ at + 1 + size a = j.next_is in
       let y : next - (at + 1) ≡ size a = omega arith in
-      passes (binder-rule o at a A n _ j.head t (kind-found k e ∙ i)) used ws new r
-      (ap (condition at) (sym (domain-is b f) ∙ d))
-      (subst (λ (m : ℕ). Kept (entry-head ∷ (at + 1) ∷ m ∷ []) used ws new r) y g)
+      passes (binder_rule o at a A n _ j.head t (kind_found k e ∙ i)) used ws new r
+      (ap (condition at) (sym (domain_is b f) ∙ d))
+      (subst (λ (m : ℕ). Kept (entry_head ∷ (at + 1) ∷ m ∷ []) used ws new r) y g)
       (omega arith)
       j.type
 
-  pub binder-fails : {k : ℕ} {b : Bool} → (tag_of (get_or proof at 0) ≡ tag-bind → ⊥) → k ≡ shape-kind (word-shape (get_or proof at 0)) → k ≡ kind-binder
+  pub binder_fails : {k : ℕ} {b : Bool} → (tag_of (get_or proof at 0) ≡ tag_bind → ⊥) → k ≡ shape_kind (word_shape (get_or proof at 0)) → k ≡ kind_binder
       → b ≡ false
-      → Answers b → Entering o at a A n used ws ws (Refused condition-fails)
-  binder-fails {k} {b} t e i d f = fails (binder-rule o at a A n _ j.head t (kind-found k e ∙ i)) used ws (ap (condition at) (sym (domain-is b f) ∙ d))
+      → Answers b → Entering o at a A n used ws ws (Refused condition_fails)
+  binder_fails {k} {b} t e i d f = fails (binder_rule o at a A n _ j.head t (kind_found k e ∙ i)) used ws (ap (condition at) (sym (domain_is b f) ∙ d))
 
-  pub plain_passes : {k : ℕ} {b : Bool} → (tag_of (get_or proof at 0) ≡ tag-app → ⊥) → k ≡ shape-kind (word-shape (get_or proof at 0)) → (k ≡ kind-binder → ⊥)
+  pub plain_passes : {k : ℕ} {b : Bool} → (tag_of (get_or proof at 0) ≡ tag_app → ⊥) → k ≡ shape_kind (word_shape (get_or proof at 0)) → (k ≡ kind_binder → ⊥)
       → b ≡ true
       → b ≡ same A N → Entering o at a A n used ws ws (Fits 0 used)
-  plain_passes {k} t e q d f = passes_none (plain-rule o at a A n _ j.head t (λ i. q (sym (kind-found k e) ∙ i))) (ap (condition at) (sym f ∙ d))
+  plain_passes {k} t e q d f = passes_none (plain_rule o at a A n _ j.head t (λ i. q (sym (kind_found k e) ∙ i))) (ap (condition at) (sym f ∙ d))
 
-  pub plain-fails : {k : ℕ} {b : Bool} → (tag_of (get_or proof at 0) ≡ tag-app → ⊥) → k ≡ shape-kind (word-shape (get_or proof at 0)) → (k ≡ kind-binder → ⊥)
+  pub plain_fails : {k : ℕ} {b : Bool} → (tag_of (get_or proof at 0) ≡ tag_app → ⊥) → k ≡ shape_kind (word_shape (get_or proof at 0)) → (k ≡ kind_binder → ⊥)
       → b ≡ false
-      → b ≡ same A N → Entering o at a A n used ws ws (Refused condition-fails)
-  plain-fails {k} t e q d f = fails (plain-rule o at a A n _ j.head t (λ i. q (sym (kind-found k e) ∙ i))) used ws (ap (condition at) (sym f ∙ d))
+      → b ≡ same A N → Entering o at a A n used ws ws (Refused condition_fails)
+  plain_fails {k} t e q d f = fails (plain_rule o at a A n _ j.head t (λ i. q (sym (kind_found k e) ∙ i))) used ws (ap (condition at) (sym f ∙ d))

@@ -12,8 +12,8 @@ use lib.IntN.{ℤ, pos, ◌+ℤ◌, nat_abs}
 use mir.Syntax.{w32}
 use mir.Val.{SFits, to_z, of_z}
 use mir.Facts.{to_z-of_z, to_z_pos}
-use Rattle.logic.specs.Limits.{payloads, most-type-words}
-use Rattle.logic.specs.Refusals.{unbound-variable, type-too-long}
+use Rattle.logic.specs.Limits.{payloads, most_type_words}
+use Rattle.logic.specs.Refusals.{unbound_variable, type_too_long}
 use Rattle.logic.specs.Result.{Result, ok, ◌>>=◌, known}
 use Rattle.logic.specs.Term.{Term, encode, size}
 use Rattle.logic.specs.Move.{shift, raise}
@@ -23,43 +23,43 @@ use Rattle.words.specs.Place.{At, Is, written_at}
 use Rattle.words.specs.Lookup.{part_of}
 use Rattle.moves.specs.Shift.{Shifted}
 use Rattle.moves.specs.declared.shift.Shift.{Shift}
-use Rattle.words.proofs.Lists.{written-front}
-use Rattle.words.proofs.Places.{part-is}
-use Rattle.moves.proofs.Shifts.{size-shift, length_shift}
-use Rattle.rules.specs.Rule.{variable-type}
-use Rattle.rules.specs.Scope.{tail, scope-words, entry-head}
+use Rattle.words.proofs.Lists.{written_front}
+use Rattle.words.proofs.Places.{part_is}
+use Rattle.moves.proofs.Shifts.{size_shift, length_shift}
+use Rattle.rules.specs.Rule.{variable_type}
+use Rattle.rules.specs.Scope.{tail, scope_words, entry_head}
 use Rattle.rules.specs.Form.{TypeFormed}
 use Rattle.rules.specs.Variable.{BinderFound, Raises}
 use Rattle.rules.specs.declared.derivation.Derivation.{Derivation}
 use Rattle.rules.specs.declared.derivation.Derivation.TheVariants.{Typed, Refused}
-use Rattle.rules.proofs.Fronts.{measured-fits, measured-long, formed-refused, writes}
-use Rattle.words.proofs.Lists.{drop-take}
-use Rattle.rules.proofs.Scopes.{scope-length, entry_at, no-binders}
+use Rattle.rules.proofs.Fronts.{measured_fits, measured_long, formed_refused, writes}
+use Rattle.words.proofs.Lists.{drop_take}
+use Rattle.rules.proofs.Scopes.{scope_length, entry_at, no_binders}
 
-first-of-rest : (Γ : List Term) (n : ℕ) → get_elem? (drop n Γ) 0 ≡ get_elem? Γ n
-first-of-rest [] zero = refl
-first-of-rest [] (suc n) = refl
-first-of-rest (A ∷ Γ) zero = refl
-first-of-rest (A ∷ Γ) (suc n) = first-of-rest Γ n
+first_of_rest : (Γ : List Term) (n : ℕ) → get_elem? (drop n Γ) 0 ≡ get_elem? Γ n
+first_of_rest [] zero = refl
+first_of_rest [] (suc n) = refl
+first_of_rest (A ∷ Γ) zero = refl
+first_of_rest (A ∷ Γ) (suc n) = first_of_rest Γ n
 
-pub cond-true : (b : Bool) (x y : ℕ) {r : ℕ} → b ≡ true → r ≡ x → r ≡ cond b x y
-cond-true b x y e q = q ∙ ap (λ (b : Bool). cond b x y) (sym e)
+pub cond_true : (b : Bool) (x y : ℕ) {r : ℕ} → b ≡ true → r ≡ x → r ≡ cond b x y
+cond_true b x y e q = q ∙ ap (λ (b : Bool). cond b x y) (sym e)
 
-pub cond-false : (b : Bool) (x y : ℕ) {r : ℕ} → b ≡ false → r ≡ y → r ≡ cond b x y
-cond-false b x y e q = q ∙ ap (λ (b : Bool). cond b x y) (sym e)
+pub cond_false : (b : Bool) (x y : ℕ) {r : ℕ} → b ≡ false → r ≡ y → r ≡ cond b x y
+cond_false b x y e q = q ∙ ap (λ (b : Bool). cond b x y) (sym e)
 
-pub cond-length : (b : Bool) (x y : List ℕ) → length (cond b x y) ≤ length x + length y
-cond-length true x y = omega arith
-cond-length false x y = omega arith
+pub cond_length : (b : Bool) (x y : List ℕ) → length (cond b x y) ≤ length x + length y
+cond_length true x y = omega arith
+cond_length false x y = omega arith
 
 -- a term that stands in a part of a list stands in the list
-at-inside : (ws : List ℕ) (m k i : ℕ) (t : Term) → At (take k (drop m ws)) i t → At ws (m + i) t
-at-inside ws m k i t h = record {
+at_inside : (ws : List ℕ) (m k i : ℕ) (t : Term) → At (take k (drop m ws)) i t → At ws (m + i) t
+at_inside ws m k i t h = record {
   plain = h.plain;
   rest = h.rest ++ drop (k - i) (drop i (drop m ws));
   words = sym (drop-drop i m ws)
       ∙ sym (take-append-drop (k - i) (drop i (drop m ws)))
-      ∙ ap (λ (x : List ℕ). x ++ drop (k - i) (drop i (drop m ws))) (sym (drop-take i k (drop m ws)) ∙ h.words)
+      ∙ ap (λ (x : List ℕ). x ++ drop (k - i) (drop i (drop m ws))) (sym (drop_take i k (drop m ws)) ∙ h.words)
       ∙ append_assoc (encode t) h.rest (drop (k - i) (drop i (drop m ws)));
 }
 
@@ -68,19 +68,19 @@ at-inside ws m k i t h = record {
 pub record Entry (proof ws : List ℕ) (kept n : ℕ) (Γ : List Term) : Type 0 where
   pub type : Term
   pub known : get_elem? Γ n ≡ some type
-  pub type-words : get_or ws (length ws - kept + 2) 0 ≡ size type
+  pub type_words : get_or ws (length ws - kept + 2) 0 ≡ size type
   pub fits : kept ≤ length ws
-  pub head : entry-head ≤ get_or ws (length ws - kept) 0
+  pub head : entry_head ≤ get_or ws (length ws - kept) 0
   pub inside : get_or ws (length ws - kept) 0 ≤ kept
-  pub within : ltb entry-head (get_or ws (length ws - kept) 0) ≡ true → get_or ws (length ws - kept + 2) 0 ≤ get_or ws (length ws - kept) 0
-  pub here : At (cond (ltb entry-head (get_or ws (length ws - kept) 0)) ws proof)
-      (cond (ltb entry-head (get_or ws (length ws - kept) 0)) (length ws - kept + (get_or ws (length ws - kept) 0 - get_or ws (length ws - kept + 2) 0))
+  pub within : ltb entry_head (get_or ws (length ws - kept) 0) ≡ true → get_or ws (length ws - kept + 2) 0 ≤ get_or ws (length ws - kept) 0
+  pub here : At (cond (ltb entry_head (get_or ws (length ws - kept) 0)) ws proof)
+      (cond (ltb entry_head (get_or ws (length ws - kept) 0)) (length ws - kept + (get_or ws (length ws - kept) 0 - get_or ws (length ws - kept + 2) 0))
       (get_or ws (length ws - kept + 1) 0)) type
 
 -- where the words of the scope stand
-in_scope : (b : Bool) (proof ws : List ℕ) (floor kept i start : ℕ) (A : Term) → At (cond b (scope-words floor kept ws) proof) (cond b i start) A
+in_scope : (b : Bool) (proof ws : List ℕ) (floor kept i start : ℕ) (A : Term) → At (cond b (scope_words floor kept ws) proof) (cond b i start) A
     → At (cond b ws proof) (cond b (length ws - kept + i) start) A
-in_scope true proof ws floor kept i start A h = at-inside ws (length ws - kept) (kept - floor) i A h
+in_scope true proof ws floor kept i start A h = at_inside ws (length ws - kept) (kept - floor) i A h
 in_scope false proof ws floor kept i start A h = h
 
 pub entry_of : {proof ws : List ℕ} {floor used n kept : ℕ} {Γ : List Term} → used ≤ length ws → (kept ≡ floor → ⊥) → BinderFound proof ws floor used n Γ kept
@@ -91,72 +91,72 @@ entry_of {proof} {ws} {floor} {used} {n} {kept} {Γ} l q f =
     let less : floor < kept = omega arith in
     let b : kept ≤ length ws = omega arith in
     let e = entry_at proof ws floor kept (drop n Γ) less b f.binders in
-    let i : get_or ws (length ws - kept) 0 ≤ length (scope-words floor kept ws) = e.inside in
-    let s : length (scope-words floor kept ws) ≡ kept - floor = scope-length floor kept ws b in
+    let i : get_or ws (length ws - kept) 0 ≤ length (scope_words floor kept ws) = e.inside in
+    let s : length (scope_words floor kept ws) ≡ kept - floor = scope_length floor kept ws b in
     record {
       type = e.type;
-      known = sym (first-of-rest Γ n) ∙ e.known;
-      type-words = e.type-words;
+      known = sym (first_of_rest Γ n) ∙ e.known;
+      type_words = e.type_words;
       fits = b;
       head = e.head;
       inside = omega arith;
       within = e.within;
-      here = in_scope (ltb entry-head (get_or ws (length ws - kept) 0)) proof ws floor kept _ _ e.type e.here;
+      here = in_scope (ltb entry_head (get_or ws (length ws - kept) 0)) proof ws floor kept _ _ e.type e.here;
     }
 
 -- ---- what the code answers
 
-pub variable-unbound : {proof ws : List ℕ} {floor used n kept : ℕ} {Γ : List Term} (at : ℕ) → kept ≡ floor → BinderFound proof ws floor used n Γ kept
-    → TypeFormed (variable-type Γ at n) (at + 1) ws ws (Refused unbound-variable at)
-variable-unbound {proof} {ws} {floor} {used} {n} {kept} {Γ} at e f =
+pub variable_unbound : {proof ws : List ℕ} {floor used n kept : ℕ} {Γ : List Term} (at : ℕ) → kept ≡ floor → BinderFound proof ws floor used n Γ kept
+    → TypeFormed (variable_type Γ at n) (at + 1) ws ws (Refused unbound_variable at)
+variable_unbound {proof} {ws} {floor} {used} {n} {kept} {Γ} at e f =
     let z : kept - floor ≡ 0 = omega arith in
-    let o : drop n Γ ≡ [] = no-binders proof (scope-words floor kept ws) (drop n Γ) (ap (λ (i : ℕ). take i (tail kept ws)) z) f.binders in
-    let m : get_elem? Γ n ≡ none = sym (first-of-rest Γ n) ∙ ap (λ (Δ : List Term). get_elem? Δ 0) o in
-    formed-refused (variable-type Γ at n) unbound-variable at (at + 1) ws
-    (ap (λ (o : Option Term). known unbound-variable at o >>= λ A. measured at (raise (suc n) A)) m)
+    let o : drop n Γ ≡ [] = no_binders proof (scope_words floor kept ws) (drop n Γ) (ap (λ (i : ℕ). take i (tail kept ws)) z) f.binders in
+    let m : get_elem? Γ n ≡ none = sym (first_of_rest Γ n) ∙ ap (λ (Δ : List Term). get_elem? Δ 0) o in
+    formed_refused (variable_type Γ at n) unbound_variable at (at + 1) ws
+    (ap (λ (o : Option Term). known unbound_variable at o >>= λ A. measured at (raise (suc n) A)) m)
 
 module _ {proof ws : List ℕ} {kept n : ℕ} {Γ : List Term} (at : ℕ) (e : Entry proof ws kept n Γ) where
-  variable-is : variable-type Γ at n ≡ measured at (raise (suc n) e.type)
-  variable-is = ap (λ (o : Option Term). known unbound-variable at o >>= λ A. measured at (raise (suc n) A)) e.known
+  variable_is : variable_type Γ at n ≡ measured at (raise (suc n) e.type)
+  variable_is = ap (λ (o : Option Term). known unbound_variable at o >>= λ A. measured at (raise (suc n) A)) e.known
 
-  raised-words : size (raise (suc n) e.type) ≡ get_or ws (length ws - kept + 2) 0
-  raised-words = size-shift 0 (pos (suc n)) e.type ∙ sym e.type-words
+  raised_words : size (raise (suc n) e.type) ≡ get_or ws (length ws - kept + 2) 0
+  raised_words = size_shift 0 (pos (suc n)) e.type ∙ sym e.type_words
 
-  pub variable-long : most-type-words < get_or ws (length ws - kept + 2) 0 → TypeFormed (variable-type Γ at n) (at + 1) ws ws (Refused type-too-long at)
-  variable-long l =
-      let r : size (raise (suc n) e.type) ≡ get_or ws (length ws - kept + 2) 0 = raised-words in
-      formed-refused (variable-type Γ at n) type-too-long at (at + 1) ws (variable-is ∙ measured-long at (raise (suc n) e.type) (omega arith))
+  pub variable_long : most_type_words < get_or ws (length ws - kept + 2) 0 → TypeFormed (variable_type Γ at n) (at + 1) ws ws (Refused type_too_long at)
+  variable_long l =
+      let r : size (raise (suc n) e.type) ≡ get_or ws (length ws - kept + 2) 0 = raised_words in
+      formed_refused (variable_type Γ at n) type_too_long at (at + 1) ws (variable_is ∙ measured_long at (raise (suc n) e.type) (omega arith))
 
   -- what is looked up is the type's words
-  pub looked-up : {from : ℕ} {part : List ℕ} → from ≡ cond (ltb entry-head (get_or ws (length ws - kept) 0))
+  pub looked_up : {from : ℕ} {part : List ℕ} → from ≡ cond (ltb entry_head (get_or ws (length ws - kept) 0))
       (length ws - kept + (get_or ws (length ws - kept) 0 - get_or ws (length ws - kept + 2) 0)) (get_or ws (length ws - kept + 1) 0)
-      → part ≡ part_of proof ws (ltb entry-head (get_or ws (length ws - kept) 0)) from (from + get_or ws (length ws - kept + 2) 0) → Is part e.type
-  looked-up {from} {part} f p =
-      let b : Bool = ltb entry-head (get_or ws (length ws - kept) 0) in
+      → part ≡ part_of proof ws (ltb entry_head (get_or ws (length ws - kept) 0)) from (from + get_or ws (length ws - kept + 2) 0) → Is part e.type
+  looked_up {from} {part} f p =
+      let b : Bool = ltb entry_head (get_or ws (length ws - kept) 0) in
       let h : At (cond b ws proof) from e.type = subst (λ (i : ℕ). At (cond b ws proof) i e.type) (sym f) e.here in
       subst (λ (x : List ℕ). Is x e.type) (sym p) (record
-      { plain = h.plain; words = part-is (from + get_or ws (length ws - kept + 2) 0) h (ap (λ (k : ℕ). from + k) e.type-words) })
+      { plain = h.plain; words = part_is (from + get_or ws (length ws - kept + 2) 0) h (ap (λ (k : ℕ). from + k) e.type_words) })
 
-  pub variable-found : {part new : List ℕ} {r : Derivation} → get_or ws (length ws - kept + 2) 0 ≤ most-type-words → Is part e.type
+  pub variable_found : {part new : List ℕ} {r : Derivation} → get_or ws (length ws - kept + 2) 0 ≤ most_type_words → Is part e.type
       → ((A : Term) → Is part A → PlainType (raise (suc n) A) → TypeFormed (ok (raise (suc n) A)) (at + 1) ws new r) → Raises Γ n
-      → TypeFormed (variable-type Γ at n) (at + 1) ws new r
-  variable-found {part} {new} {r} l i f h =
+      → TypeFormed (variable_type Γ at n) (at + 1) ws new r
+  variable_found {part} {new} {r} l i f h =
       let A : Term = e.type in
-      let s : size (raise (suc n) e.type) ≡ get_or ws (length ws - kept + 2) 0 = raised-words in
-      let t : get_or ws (length ws - kept + 2) 0 ≡ size A = e.type-words in
-      subst (λ (o : Result Term). TypeFormed o (at + 1) ws new r) (sym (variable-is ∙ measured-fits at (raise (suc n) A) (omega arith)))
+      let s : size (raise (suc n) e.type) ≡ get_or ws (length ws - kept + 2) 0 = raised_words in
+      let t : get_or ws (length ws - kept + 2) 0 ≡ size A = e.type_words in
+      subst (λ (o : Result Term). TypeFormed o (at + 1) ws new r) (sym (variable_is ∙ measured_fits at (raise (suc n) A) (omega arith)))
       (f A i (h A e.known (omega arith)))
 
 -- the raised type's words were written at the front
-pub raised-front : {z : ℤ} {ws part zeros raised new : List ℕ} {n : ℕ} {w : Shift} (at : ℕ) (A : Term) → size A ≤ most-type-words
+pub raised_front : {z : ℤ} {ws part zeros raised new : List ℕ} {n : ℕ} {w : Shift} (at : ℕ) (A : Term) → size A ≤ most_type_words
     → z ≡ pos (suc n) → Is part A → ((t : Term) → Is part t → Shifted t 0 z zeros 0 raised w)
     → new ≡ written_at ws 0 (take w.words raised) → PlainType (raise (suc n) A)
     → TypeFormed (ok (raise (suc n) A)) (at + 1) ws new (Typed w.words (at + 1))
-raised-front {z} {ws} {part} {zeros} {raised} {new} {n} {w} at A l y i f c h =
+raised_front {z} {ws} {part} {zeros} {raised} {new} {n} {w} at A l y i f c h =
     let s = f A i in
-    let r : size (raise (suc n) A) ≡ size A = size-shift 0 (pos (suc n)) A in
+    let r : size (raise (suc n) A) ≡ size A = size_shift 0 (pos (suc n)) A in
     writes (ok (raise (suc n) A)) (raise (suc n) A) w.words (at + 1) ws ws new refl (s.words_are ∙ sym r) (omega arith) h refl
-    (c ∙ ap (written_at ws 0) (written-front zeros raised (encode (shift 0 z A)) w.words s.words (s.words_are ∙ sym (length_shift 0 z A))
+    (c ∙ ap (written_at ws 0) (written_front zeros raised (encode (shift 0 z A)) w.words s.words (s.words_are ∙ sym (length_shift 0 z A))
     ∙ ap (λ (v : ℤ). encode (shift 0 v A)) y))
 
 -- ---- the machine's sum of a variable's number and a small amount
@@ -168,11 +168,11 @@ module _ (n k : ℕ) (h : n < payloads) (l : k ≤ 1) where
   number : to_z w32 n ≡ pos n
   number = let a : n < 2 ^ 31 = omega arith in to_z_pos w32 a
 
-  pub amount-fits : SFits w32 (to_z w32 n +ℤ pos k)
-  amount-fits = rw number sum_fits
+  pub amount_fits : SFits w32 (to_z w32 n +ℤ pos k)
+  amount_fits = rw number sum_fits
 
-  pub amount-is : to_z w32 (of_z w32 (to_z w32 n +ℤ pos k)) ≡ pos (n + k)
-  amount-is = rw number (to_z-of_z sum_fits)
+  pub amount_is : to_z w32 (of_z w32 (to_z w32 n +ℤ pos k)) ≡ pos (n + k)
+  amount_is = rw number (to_z-of_z sum_fits)
 
-  pub amount-near : nat_abs (to_z w32 (of_z w32 (to_z w32 n +ℤ pos k))) ≤ payloads
-  amount-near = rw amount-is (omega arith)
+  pub amount_near : nat_abs (to_z w32 (of_z w32 (to_z w32 n +ℤ pos k))) ≤ payloads
+  amount_near = rw amount_is (omega arith)

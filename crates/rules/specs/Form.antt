@@ -1,6 +1,6 @@
 -- What a rule's result is: the answer's numbers, and a type at the front of the workspace.
 use Rattle.std.specs.Prelude.{ℕ, ◌+◌, ◌≡◌, List, drop}
-use Rattle.logic.specs.Limits.{most-type-words}
+use Rattle.logic.specs.Limits.{most_type_words}
 use Rattle.logic.specs.Result.{Result, ok, refused, ◌>>=◌}
 use Rattle.logic.specs.Term.{Term, size}
 use Rattle.words.specs.Typed.{TypeAt}
@@ -8,13 +8,13 @@ use Rattle.rules.specs.declared.derivation.Derivation.{Derivation}
 use Rattle.rules.specs.declared.derivation.Derivation.TheVariants.{Typed, Refused}
 
 -- number, place and values of each case: the words of the type, and where the term ends
-abbrev pub derivation-answer : Derivation → Result (ℕ × ℕ)
-derivation-answer (Typed words end) = ok (words, end)
-derivation-answer (Refused m p) = refused m p
+abbrev pub derivation_answer : Derivation → Result (ℕ × ℕ)
+derivation_answer (Typed words end) = ok (words, end)
+derivation_answer (Refused m p) = refused m p
 
 -- the words of the type that came out, of a term that ends at `end`
-abbrev pub type-and-end : Result Term → ℕ → Result (ℕ × ℕ)
-type-and-end o end = o >>= λ A. ok (size A, end)
+abbrev pub type_and_end : Result Term → ℕ → Result (ℕ × ℕ)
+type_and_end o end = o >>= λ A. ok (size A, end)
 
 -- the type that came out stands at the front of the workspace
 abbrev pub Front : Result Term → List ℕ → Type 0
@@ -22,15 +22,15 @@ Front (ok A) ws = TypeAt ws 0 A
 Front (refused m p) ws = Unit {0}
 
 -- what a rule may write at the front of the workspace
-abbrev pub front-words : ℕ
-front-words = most-type-words + most-type-words
+abbrev pub front_words : ℕ
+front_words = most_type_words + most_type_words
 
 -- a type is at the front, and only the front was written
 pub record TypeFormed (o : Result Term) (end : ℕ) (old new : List ℕ) (r : Derivation) : Type 0 where
-  pub answer : derivation-answer r ≡ type-and-end o end
+  pub answer : derivation_answer r ≡ type_and_end o end
   pub front : Front o new
-  pub rest : drop front-words new ≡ drop front-words old
+  pub rest : drop front_words new ≡ drop front_words old
 
 -- what a level of nesting may keep: a type, and the words before it in an entry
-abbrev pub level-words : ℕ
-level-words = most-type-words + 3
+abbrev pub level_words : ℕ
+level_words = most_type_words + 3

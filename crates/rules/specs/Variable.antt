@@ -2,20 +2,20 @@
 use Rattle.std.specs.Prelude.{ℕ, suc, ◌+◌, ◌≤◌, ◌<◌, ◌≡◌, Bool, List, length, drop}
 use Rattle.std.proofs.Math.Option.{some}
 use Rattle.std.proofs.Math.ListN.{get_elem?}
-use Rattle.logic.specs.Limits.{payloads, most-words, most-nesting, most-type-words}
+use Rattle.logic.specs.Limits.{payloads, most_words, most_nesting, most_type_words}
 use Rattle.logic.specs.Term.{Term, size}
 use Rattle.logic.specs.Move.{raise}
 use Rattle.logic.specs.Reading.{PlainType}
 use Rattle.words.specs.Place.{Is}
 use Rattle.words.specs.Lookup.{part_of, PartWithin}
-use Rattle.rules.specs.Scope.{scope-words, Binders}
-use Rattle.rules.specs.Form.{front-words}
+use Rattle.rules.specs.Scope.{scope_words, Binders}
+use Rattle.rules.specs.Form.{front_words}
 
 -- the words kept are those of binders
 pub record Walkable (ws : List ℕ) (floor used : ℕ) : Type 0 where
   pub proof : List ℕ
   pub Γ : List Term
-  pub binders : Binders proof (scope-words floor used ws) Γ
+  pub binders : Binders proof (scope_words floor used ws) Γ
   pub below : floor ≤ used
   pub inside : used ≤ length ws
 
@@ -23,30 +23,30 @@ pub record Walkable (ws : List ℕ) (floor used : ℕ) : Type 0 where
 pub record BinderFound (proof ws : List ℕ) (floor used n : ℕ) (Γ : List Term) (r : ℕ) : Type 0 where
   pub least : floor ≤ r
   pub most : r ≤ used
-  pub binders : Binders proof (scope-words floor r ws) (drop n Γ)
+  pub binders : Binders proof (scope_words floor r ws) (drop n Γ)
 
 -- a variable's number and place, and the binders in scope
 pub record InScope (proof ws : List ℕ) (floor used n at : ℕ) : Type 0 where
   pub Γ : List Term
-  pub binders : Binders proof (scope-words floor used ws) Γ
-  pub few : length Γ ≤ most-nesting
+  pub binders : Binders proof (scope_words floor used ws) Γ
+  pub few : length Γ ≤ most_nesting
   pub number : n < payloads
-  pub place : at < most-words
+  pub place : at < most_words
   pub below : floor ≤ used
-  pub room : used + front-words ≤ length ws
+  pub room : used + front_words ≤ length ws
 
 -- a binder's type is a plain term where the variable stands
 abbrev pub Raises : List Term → ℕ → Type 0
-Raises Γ n = (A : Term) → get_elem? Γ n ≡ some A → size A ≤ most-type-words → PlainType (raise (suc n) A)
+Raises Γ n = (A : Term) → get_elem? Γ n ≡ some A → size A ≤ most_type_words → PlainType (raise (suc n) A)
 
 -- the words of a binder's type, in the proof or in the workspace, and room for them
 pub record Raisable (proof ws : List ℕ) (in_held : Bool) (from words n at room : ℕ) : Type 0 where
   pub type : Term
   pub part : Is (part_of proof ws in_held from (from + words)) type
   pub inside : PartWithin proof ws in_held from (from + words)
-  pub type-words : words ≡ size type
-  pub small : words ≤ most-type-words
+  pub type_words : words ≡ size type
+  pub small : words ≤ most_type_words
   pub fits : words ≤ room
   pub number : n < payloads
-  pub place : at < most-words
-  pub front : front-words ≤ length ws
+  pub place : at < most_words
+  pub front : front_words ≤ length ws

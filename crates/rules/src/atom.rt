@@ -1,12 +1,12 @@
 // The type of a word that has no children and is no variable.
 ghost use Rattle.std.specs.Prelude.{◌≡◌, List, ◌+◌};
 ghost use Rattle.std.proofs.Math.Option.{some};
-ghost use Rattle.logic.specs.Term.{Atom, constA, Term, atom-word, tag_of};
+ghost use Rattle.logic.specs.Term.{Atom, constA, Term, atom_word, tag_of};
 ghost use Rattle.logic.specs.Reading.{PlainAtom};
-ghost use Rattle.rules.specs.Rule.{atom-type};
+ghost use Rattle.rules.specs.Rule.{atom_type};
 ghost use Rattle.rules.specs.Scope.{Declared};
 ghost use Rattle.rules.specs.Form.{TypeFormed};
-ghost use Rattle.rules.specs.Atoms.{sort-of, Constants};
+ghost use Rattle.rules.specs.Atoms.{sort_of, Constants};
 
 use crate::derivation::Derivation;
 use logic::limit::MOST_TYPE_WORDS;
@@ -19,7 +19,7 @@ use parts::copy;
 
 // The word of the type of an atom that is no constant, by the atom's tag.
 fn sort(tag: u32) -> u32
-    ensures { (a b : Atom) → PlainAtom a → tag ≡ tag_of (atom-word a) → sort-of a ≡ some b → result ≡ atom-word b }
+    ensures { (a b : Atom) → PlainAtom a → tag ≡ tag_of (atom_word a) → sort_of a ≡ some b → result ≡ atom_word b }
 {
     let prop = tag == TAG_PROP;
     if prop {
@@ -45,7 +45,7 @@ fn sort(tag: u32) -> u32
 fn constant(sig: &[u32], table: &[u32], ws: &mut [u32], n: usize, at: usize) -> Derivation
     requires { Constants sig.now table.now ws.old at }
     ensures { (Σ : List Term) → Declared sig.now table.now Σ
-        → TypeFormed (atom-type Σ at (constA n)) (at + 1) ws.old ws.new result }
+        → TypeFormed (atom_type Σ at (constA n)) (at + 1) ws.old ws.new result }
 {
     if table.len() <= n {
         return Derivation::Refused {
@@ -68,8 +68,8 @@ fn constant(sig: &[u32], table: &[u32], ws: &mut [u32], n: usize, at: usize) -> 
 // The type of an atom's word.
 pub fn atom(sig: &[u32], table: &[u32], ws: &mut [u32], word: u32, at: usize) -> Derivation
     requires { Constants sig.now table.now ws.old at }
-    ensures { (Σ : List Term) → (a : Atom) → Declared sig.now table.now Σ → word ≡ atom-word a → PlainAtom a
-        → TypeFormed (atom-type Σ at a) (at + 1) ws.old ws.new result }
+    ensures { (Σ : List Term) → (a : Atom) → Declared sig.now table.now Σ → word ≡ atom_word a → PlainAtom a
+        → TypeFormed (atom_type Σ at a) (at + 1) ws.old ws.new result }
 {
     let tag = tag_of(word);
     if tag == TAG_CONSTANT {

@@ -1,12 +1,12 @@
 // Between the children of a node: the test on the first child's type, and what is kept for the second.
 ghost use Rattle.std.specs.Prelude.{◌≡◌, [], ◌∷◌, ℕ, ◌+◌, ◌-◌, ◌≤◌, length};
-ghost use Rattle.logic.specs.Limits.{most-words};
+ghost use Rattle.logic.specs.Limits.{most_words};
 ghost use Rattle.logic.specs.Term.{Op, bindO, Term, Says, size, first_word};
 ghost use Rattle.logic.specs.Reading.{PlainType};
 ghost use Rattle.logic.specs.Infer.{domain as is-domain};
 ghost use Rattle.words.specs.Place.{written_at};
 ghost use Rattle.words.specs.Typed.{TypeAt};
-ghost use Rattle.rules.specs.Scope.{entry-head, binder-entry};
+ghost use Rattle.rules.specs.Scope.{entry_head, binder_entry};
 ghost use Rattle.rules.specs.Enter.{Enters, NodeEnterable, Entering, Kept, Keepable};
 
 use crate::front::front_is;
@@ -39,7 +39,7 @@ fn domain(word: u32) -> bool
 
 // Writes the first words of an entry.
 fn put_head(ws: &mut [u32], head: usize, total: usize, start: usize, size: usize)
-    requires { (head + entry-head ≤ length ws.old) × (total ≤ most-words) × (start ≤ most-words) × (size ≤ most-words) }
+    requires { (head + entry_head ≤ length ws.old) × (total ≤ most_words) × (start ≤ most_words) × (size ≤ most_words) }
     ensures { ws.new ≡ written_at ws.old head (total ∷ start ∷ size ∷ []) }
 {
     ws[head] = total as u32;
@@ -50,8 +50,8 @@ fn put_head(ws: &mut [u32], head: usize, total: usize, start: usize, size: usize
 // Keeps the entry of a Pi or a Lam, whose domain stands in the proof from `start` up to
 // `next`. Returns how many words are kept.
 fn keep_domain(ws: &mut [u32], used: usize, start: usize, next: usize) -> usize
-    requires { (used + entry-head ≤ length ws.old) × (start ≤ next) × (next ≤ most-words) }
-    ensures { Kept (entry-head ∷ start ∷ (next - start) ∷ []) used ws.old ws.new result }
+    requires { (used + entry_head ≤ length ws.old) × (start ≤ next) × (next ≤ most_words) }
+    ensures { Kept (entry_head ∷ start ∷ (next - start) ∷ []) used ws.old ws.new result }
 {
     let kept = used + ENTRY_HEAD;
     let head = ws.len() - kept;
@@ -64,7 +64,7 @@ fn keep_domain(ws: &mut [u32], used: usize, start: usize, next: usize) -> usize
 fn keep_says(ws: &mut [u32], used: usize, n: usize) -> usize
     requires { Keepable ws.old used n }
     ensures { (at : ℕ) → (a p q : Term) → TypeAt ws.old 0 (Says p q) → n ≡ size (Says p q)
-        → Kept (binder-entry bindO at a (Says p q)) used ws.old ws.new result }
+        → Kept (binder_entry bindO at a (Says p q)) used ws.old ws.new result }
 {
     let kept = used + (ENTRY_HEAD + n);
     let head = ws.len() - kept;

@@ -6,8 +6,8 @@ ghost use Rattle.logic.specs.Move.{raise};
 ghost use Rattle.logic.specs.Reading.{PlainType};
 ghost use Rattle.words.specs.Place.{Is};
 ghost use Rattle.words.specs.Lookup.{part_of};
-ghost use Rattle.rules.specs.Rule.{variable-type};
-ghost use Rattle.rules.specs.Scope.{scope-words, Binders};
+ghost use Rattle.rules.specs.Rule.{variable_type};
+ghost use Rattle.rules.specs.Scope.{scope_words, Binders};
 ghost use Rattle.rules.specs.Form.{TypeFormed};
 ghost use Rattle.rules.specs.Variable.{Walkable, BinderFound, InScope, Raises, Raisable};
 
@@ -26,7 +26,7 @@ pub const ENTRY_HEAD: usize = 3;
 // How many words are kept from the entry of variable n on, or `floor` where there is no such binder.
 fn binder(ws: &[u32], floor: usize, used: usize, n: u32) -> usize
     requires { Walkable ws.now floor used }
-    ensures { (proof : List ℕ) → (Γ : List Term) → Binders proof (scope-words floor used ws.now) Γ
+    ensures { (proof : List ℕ) → (Γ : List Term) → Binders proof (scope_words floor used ws.now) Γ
         → BinderFound proof ws.now floor used n Γ result }
 {
     let mut kept = used;
@@ -77,8 +77,8 @@ pub fn variable(
     at: usize,
 ) -> Derivation
     requires { InScope proof.now ws.old floor used n at }
-    ensures { (Γ : List Term) → Binders proof.now (scope-words floor used ws.old) Γ → Raises Γ n
-        → TypeFormed (variable-type Γ at n) (at + 1) ws.old ws.new result }
+    ensures { (Γ : List Term) → Binders proof.now (scope_words floor used ws.old) Γ → Raises Γ n
+        → TypeFormed (variable_type Γ at n) (at + 1) ws.old ws.new result }
 {
     let kept = binder(&ws[..], floor, used, n);
     if kept == floor {

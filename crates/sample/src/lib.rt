@@ -1,4 +1,6 @@
 // The words of document 01's sample, each under the name that the document gives it, and of document 02's examples.
+#![tactic(auto)]
+
 use logic::word::{
     APP, BIND, CONSTANT_0, LAM, NAME_0, PI, PRIN, PROP, SAYS, SIGN_0, STRING, TEXT_0, VARIABLE_0,
 };

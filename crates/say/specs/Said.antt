@@ -1,30 +1,30 @@
 -- What a say answers and leaves, by the definitions of `register`.
 use Rattle.std.specs.Prelude.{ℕ, ◌≤◌, ◌≡◌, Bool, true, false, List, length}
-use Rattle.logic.specs.Limits.{most-words}
+use Rattle.logic.specs.Limits.{most_words}
 use Rattle.logic.specs.Result.{Result, ok, refused}
 use Rattle.logic.specs.Term.{Term}
 use Rattle.words.specs.Place.{Is}
-use Rattle.register.specs.Records.{Content, Statement, register-content}
-use Rattle.register.specs.Calls.{Lent, say-call, after-say}
+use Rattle.register.specs.Records.{Content, Statement, register_content}
+use Rattle.register.specs.Calls.{Lent, say_call, after_say}
 use Rattle.say.specs.declared.Said.{Said}
 use Rattle.say.specs.declared.Said.TheVariants.{Added, Held, Refused}
 
 -- number, place and value of each case: whether it added a record. "Success answers 0 at place 0, and say also whether
 -- it added a record"
-abbrev pub said-answer : Said → Result Bool
-said-answer Added = ok true
-said-answer Held = ok false
-said-answer (Refused m p) = refused m p
+abbrev pub said_answer : Said → Result Bool
+said_answer Added = ok true
+said_answer Held = ok false
+said_answer (Refused m p) = refused m p
 
 -- the answer, and the register afterwards
 pub record SaysAs (l : Lent) (old : List ℕ) (day : ℕ) (st : Statement) (new : List ℕ) (r : Said) : Type 0 where
-  pub answer : said-answer r ≡ say-call l old day st
-  pub register : new ≡ after-say (say-call l old day st) old day st
+  pub answer : said_answer r ≡ say_call l old day st
+  pub register : new ≡ after_say (say_call l old day st) old day st
 
 -- a plain term of few words, and a register that is not broken
 pub record Enterable (reg ws : List ℕ) : Type 0 where
   pub content : Content
-  pub reads : register-content reg ≡ ok content
+  pub reads : register_content reg ≡ ok content
   pub term : Term
   pub is : Is ws term
-  pub short : length ws ≤ most-words
+  pub short : length ws ≤ most_words

@@ -1,12 +1,14 @@
 // Say: the statement of a principal, added unless it is held.
+#![tactic(auto)]
+
 ghost use Rattle.std.specs.Prelude.{◌≡◌, List};
 ghost use Rattle.logic.specs.Result.{ok};
 ghost use Rattle.logic.specs.Term.{Term};
 ghost use Rattle.words.specs.Place.{Is};
-ghost use Rattle.register.specs.Records.{Content, statement-of, register-content};
-ghost use Rattle.register.specs.Calls.{Lent, view, outline-of, stated-own, say-call};
+ghost use Rattle.register.specs.Records.{Content, statement_of, register_content};
+ghost use Rattle.register.specs.Calls.{Lent, view, outline_of, stated_own, say_call};
 ghost use Rattle.shared_tests.specs.Shared.{lent_of};
-ghost use Rattle.say.specs.Said.{said-answer, SaysAs, Enterable};
+ghost use Rattle.say.specs.Said.{said_answer, SaysAs, Enterable};
 
 use logic::limit::MOST_CONSTANTS;
 use logic::refusal::{BAD_NUMBER, DAY_BEFORE_LATEST, DESK_SAYS, REGISTER_FULL};
@@ -38,10 +40,10 @@ fn addable(
     proposition: &[u32],
 ) -> Said
     requires { Enterable register.now proposition.now }
-    ensures { (l : Lent) → (Σ : List Term) → (c : Content) → (q : Term) → register-content register.now ≡ ok c
+    ensures { (l : Lent) → (Σ : List Term) → (c : Content) → (q : Term) → register_content register.now ≡ ok c
         → Is proposition.now q
-        → said-answer result ≡ stated-own day (statement-of principal first last proposition.now) q
-        (view l (outline-of register.now) c Σ) }
+        → said_answer result ≡ stated_own day (statement_of principal first last proposition.now) q
+        (view l (outline_of register.now) c Σ) }
 {
     let view = view_of(register);
     let miss = first_miss(view.source, register, proposition, When::On(day));
@@ -73,9 +75,9 @@ fn sayable(
     proposition: &[u32],
     ws: &mut [u32],
 ) -> Said
-    ensures { said-answer result ≡
-        say-call (lent_of sig.now n ws.old) register.now day
-        (statement-of principal first last proposition.now) }
+    ensures { said_answer result ≡
+        say_call (lent_of sig.now n ws.old) register.now day
+        (statement_of principal first last proposition.now) }
 {
     let mut table = [0u32; MOST_CONSTANTS];
     let ready = prepare(sig, n, register, &mut table, ws);
@@ -125,7 +127,7 @@ pub fn say(
     ws: &mut [u32],
 ) -> Said
     ensures { SaysAs (lent_of sig.now n ws.old) register.old day
-        (statement-of principal first last proposition.now) register.new result }
+        (statement_of principal first last proposition.now) register.new result }
 {
     let tested = sayable(
         sig,

@@ -1,7 +1,7 @@
 // A register as a call's own tests look at it.
 ghost use Rattle.std.specs.Prelude.{◌≡◌, ◌≤◌, length};
-ghost use Rattle.register.specs.Records.{header as header-words};
-ghost use Rattle.search.specs.Sources.{register-view};
+ghost use Rattle.register.specs.Records.{header as header_words};
+ghost use Rattle.search.specs.Sources.{register_view};
 
 use crate::statement::{Source, source_of};
 use records::header::read_header;
@@ -17,8 +17,8 @@ pub struct View {
 
 // The view of a register that is not broken.
 pub fn view_of(register: &[u32]) -> View
-    requires { header-words ≤ length register.now }
-    ensures { result ≡ register-view register.now }
+    requires { header_words ≤ length register.now }
+    ensures { result ≡ register_view register.now }
 {
     let header = read_header(register);
     View {

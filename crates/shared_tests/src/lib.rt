@@ -1,11 +1,13 @@
 // The tests that calls share: 1 to 4, and of 5 the number of operations with their permits and receipts.
+#![tactic(auto)]
+
 ghost use Rattle.std.specs.Prelude.{◌≡◌, List, ℕ, ◌≤◌, leb, length};
-ghost use Rattle.logic.specs.Limits.{most-constants};
+ghost use Rattle.logic.specs.Limits.{most_constants};
 ghost use Rattle.signature.specs.Listing.{SignatureReadable};
 ghost use Rattle.logic.specs.Result.{number_of};
-ghost use Rattle.register.specs.Records.{statement-of, header, latest};
-ghost use Rattle.register.specs.Calls.{statement-test};
-ghost use Rattle.shared_tests.specs.Shared.{lengths-test, lent_of, SignedAs, PreparedAs, OpenedAs};
+ghost use Rattle.register.specs.Records.{statement_of, header, latest};
+ghost use Rattle.register.specs.Calls.{statement_test};
+ghost use Rattle.shared_tests.specs.Shared.{lengths_test, lent_of, SignedAs, PreparedAs, OpenedAs};
 
 use logic::limit::{LEAST_WORKSPACE, MOST_REGISTER};
 use logic::refusal::{
@@ -52,7 +54,7 @@ fn accept(sig: &[u32], n: u32, table: &mut [u32], ws: &mut [u32]) -> Ready
 
 // Tests 1 and 2: the number of the one that refuses, or 0.
 fn lengths(workspace: usize, register: usize) -> u32
-    ensures { result ≡ number_of (lengths-test workspace register) }
+    ensures { result ≡ number_of (lengths_test workspace register) }
 {
     if workspace < LEAST_WORKSPACE {
         return WORKSPACE_SHORT;
@@ -68,7 +70,7 @@ fn lengths(workspace: usize, register: usize) -> u32
 
 // Test 5 of a statement's own numbers, in say and in open: "A first day after the last is 5".
 pub fn good_statement(principal: u32, first: u32, last: u32) -> bool
-    ensures { (words : List ℕ) → result ≡ statement-test (statement-of principal first last words) }
+    ensures { (words : List ℕ) → result ≡ statement_test (statement_of principal first last words) }
 {
     if PAYLOADS <= principal {
         return false;
@@ -87,7 +89,7 @@ pub fn in_time(register: &[u32], day: u32) -> bool
 
 // Tests 1, 2, 4 and 5, for open.
 pub fn lend(sig: &[u32], n: u32, register: usize, table: &mut [u32], ws: &mut [u32]) -> Ready
-    requires { length table.old ≡ most-constants }
+    requires { length table.old ≡ most_constants }
     ensures { OpenedAs (lent_of sig.now n ws.old) register table.new result }
 {
     let number = lengths(ws.len(), register);
@@ -99,7 +101,7 @@ pub fn lend(sig: &[u32], n: u32, register: usize, table: &mut [u32], ws: &mut [u
 
 // Tests 1 to 5, for the other calls.
 pub fn prepare(sig: &[u32], n: u32, register: &[u32], table: &mut [u32], ws: &mut [u32]) -> Ready
-    requires { length table.old ≡ most-constants }
+    requires { length table.old ≡ most_constants }
     ensures { PreparedAs (lent_of sig.now n ws.old) register.now table.new result }
 {
     let number = lengths(ws.len(), register.len());

@@ -11,39 +11,39 @@ use lib.Dec.{leb, ltb}
 use lib.ListN.{length, take, drop, get_or, get_elem?, set, get_or-append, length-append, length-drop, drop_of_length-le, take-append-drop}
 use lib.Seq.{drop-drop, length-take-le, take-suc-set, get_or-append_seam}
 use borrow.Author.Tests.{le-leb, lt-leb, leb-true, le-ltb, lt-ltb}
-use Rattle.logic.specs.Limits.{most-words, most-nesting, most-constants, most-constant-words}
-use Rattle.logic.specs.Refusals.{bad-signature}
+use Rattle.logic.specs.Limits.{most_words, most_nesting, most_constants, most_constant_words}
+use Rattle.logic.specs.Refusals.{bad_signature}
 use Rattle.logic.specs.Result.{Result, ok, refused, ◌>>=◌, ◌>>◌, require}
 use Rattle.logic.specs.Term.{Term, P, S, Pi, KindP, encode, size}
 use Rattle.logic.specs.Typing.{Has}
 use Rattle.logic.specs.Scope.{Signature}
-use Rattle.logic.specs.Reading.{Plain, read, too-deep}
-use Rattle.logic.specs.Infer.{infer, same, same-term, condition}
+use Rattle.logic.specs.Reading.{Plain, read, too_deep}
+use Rattle.logic.specs.Infer.{infer, same, same_term, condition}
 use Rattle.logic.specs.Check.{term_of, Checked}
-use Rattle.logic.proofs.Basics.{clash, no-entry}
-use Rattle.logic.proofs.Words.{encode-size}
-use Rattle.logic.proofs.Results.{not-ok, ok-inj, bind_is, pass, both_true, true-both}
+use Rattle.logic.proofs.Basics.{clash, no_entry}
+use Rattle.logic.proofs.Words.{encode_size}
+use Rattle.logic.proofs.Results.{not_ok, ok_inj, bind_is, pass, both_true, true_both}
 use Rattle.logic.proofs.Stopped.{stop, fail}
-use Rattle.logic.proofs.Signatures.{entry-last, extend, empty-signature}
+use Rattle.logic.proofs.Signatures.{entry_last, extend, empty_signature}
 use Rattle.words.specs.Place.{At}
 use Rattle.words.specs.Typed.{TypeAt}
-use Rattle.words.proofs.Lists.{drop-one}
+use Rattle.words.proofs.Lists.{drop_one}
 use Rattle.rules.specs.Scope.{Declared}
 use Rattle.logic.specs.SignatureList.{at_constant, constant, constants, signature}
 use Rattle.rules.specs.Form.{Front}
-use Rattle.rules.proofs.Fronts.{typed-by, refused-by}
-use Rattle.typing.specs.Check.{ConstantsOf, typed-term, Judged}
-use Rattle.signature.specs.Listing.{succeeded, constant-at, SignatureRead}
+use Rattle.rules.proofs.Fronts.{typed_by, refused_by}
+use Rattle.typing.specs.Check.{ConstantsOf, typed_term, Judged}
+use Rattle.signature.specs.Listing.{succeeded, constant_at, SignatureRead}
 use Rattle.rules.specs.declared.derivation.Derivation.{Derivation}
 use Rattle.rules.specs.declared.derivation.Derivation.TheVariants.{Typed, Refused}
 use Rattle.signature.specs.declared.list.Listed.TheVariants.{Accepted, Refused as ListedRefused}
-use Rattle.logic.proofs.SignatureList.{constant-right}
+use Rattle.logic.proofs.SignatureList.{constant_right}
 
 -- ---- one constant
 
 -- the condition on a constant's type
-abbrev kind-test : Result Checked → Result Term
-kind-test r = r >>= λ c. condition 0 (same c.type KindP) >> ok c.term
+abbrev kind_test : Result Checked → Result Term
+kind_test r = r >>= λ c. condition 0 (same c.type KindP) >> ok c.term
 
 module _ (Σ : List Term) (sig : List ℕ) (at : ℕ) (l : at < length sig) where
   abbrev n : ℕ
@@ -52,114 +52,114 @@ module _ (Σ : List Term) (sig : List ℕ) (at : ℕ) (l : at < length sig) wher
   abbrev ws : List ℕ
   ws = drop (at + 1) sig
 
-  at-word : constant-at Σ (drop at sig) ≡ (leb 1 n && leb n most-constant-words && leb n (length ws) && succeeded (constant Σ (take n ws)))
-  unfolding constant-at
-  at-word = ap (constant-at Σ) (drop-one sig at l)
+  at_word : constant_at Σ (drop at sig) ≡ (leb 1 n && leb n most_constant_words && leb n (length ws) && succeeded (constant Σ (take n ws)))
+  unfolding constant_at
+  at_word = ap (constant_at Σ) (drop_one sig at l)
 
-  pub no-length-word : n < 1 → false ≡ constant-at Σ (drop at sig)
-  no-length-word h = sym (at-word ∙ ap (λ (b : Bool). b && leb n most-constant-words && leb n (length ws) && succeeded (constant Σ (take n ws))) (lt-leb 1 n h))
+  pub no_length_word : n < 1 → false ≡ constant_at Σ (drop at sig)
+  no_length_word h = sym (at_word ∙ ap (λ (b : Bool). b && leb n most_constant_words && leb n (length ws) && succeeded (constant Σ (take n ws))) (lt-leb 1 n h))
 
-  pub too-many-words : most-constant-words < n → false ≡ constant-at Σ (drop at sig)
-  too-many-words h =
-      sym (at-word ∙ ap (λ (b : Bool). leb 1 n && b && leb n (length ws) && succeeded (constant Σ (take n ws))) (lt-leb n most-constant-words h)
+  pub too_many_words : most_constant_words < n → false ≡ constant_at Σ (drop at sig)
+  too_many_words h =
+      sym (at_word ∙ ap (λ (b : Bool). leb 1 n && b && leb n (length ws) && succeeded (constant Σ (take n ws))) (lt-leb n most_constant_words h)
       ∙ ap (λ (b : Bool). b && leb n (length ws) && succeeded (constant Σ (take n ws))) (and-false (leb 1 n)))
 
-  pub cut_off : length sig - (at + 1) < n → false ≡ constant-at Σ (drop at sig)
+  pub cut_off : length sig - (at + 1) < n → false ≡ constant_at Σ (drop at sig)
   cut_off h =
       let d : length ws < n = omega (arith, length-drop (at + 1) sig) in
-      sym (at-word ∙ ap (λ (b : Bool). leb 1 n && leb n most-constant-words && b && succeeded (constant Σ (take n ws))) (lt-leb n (length ws) d)
-      ∙ ap (λ (b : Bool). b && succeeded (constant Σ (take n ws))) (and-false (leb 1 n && leb n most-constant-words)))
+      sym (at_word ∙ ap (λ (b : Bool). leb 1 n && leb n most_constant_words && b && succeeded (constant Σ (take n ws))) (lt-leb n (length ws) d)
+      ∙ ap (λ (b : Bool). b && succeeded (constant Σ (take n ws))) (and-false (leb 1 n && leb n most_constant_words)))
 
-  module _ (some_word : 1 ≤ n) (not_more : n ≤ most-constant-words) (fits : n ≤ length sig - (at + 1)) where
-    tests : constant-at Σ (drop at sig) ≡ succeeded (constant Σ (take n ws))
+  module _ (some_word : 1 ≤ n) (not_more : n ≤ most_constant_words) (fits : n ≤ length sig - (at + 1)) where
+    tests : constant_at Σ (drop at sig) ≡ succeeded (constant Σ (take n ws))
     tests =
         let d : n ≤ length ws = omega (arith, length-drop (at + 1) sig) in
-        at-word ∙ ap (λ (b : Bool). b && succeeded (constant Σ (take n ws)))
-        (true-both (true-both (le-leb 1 n some_word) (le-leb n most-constant-words not_more)) (le-leb n (length ws) d))
+        at_word ∙ ap (λ (b : Bool). b && succeeded (constant Σ (take n ws)))
+        (true_both (true_both (le-leb 1 n some_word) (le-leb n most_constant_words not_more)) (le-leb n (length ws) d))
 
-    pub known-type : succeeded (constant Σ (take n ws)) ≡ true → true ≡ constant-at Σ (drop at sig)
-    known-type e = sym (tests ∙ e)
+    pub known_type : succeeded (constant Σ (take n ws)) ≡ true → true ≡ constant_at Σ (drop at sig)
+    known_type e = sym (tests ∙ e)
 
-    typed-refused : (m p : ℕ) → typed-term Σ most-words most-nesting (take n ws) ≡ refused m p → succeeded (constant Σ (take n ws)) ≡ false
-    typed-refused m p e = go (term_of most-words most-nesting (take n ws)) e
+    typed_refused : (m p : ℕ) → typed_term Σ most_words most_nesting (take n ws) ≡ refused m p → succeeded (constant Σ (take n ws)) ≡ false
+    typed_refused m p e = go (term_of most_words most_nesting (take n ws)) e
       where
-        typed : (t : Term) (r : Result Term) → r ≡ refused m p → succeeded (kind-test (r >>= λ A. ok (record { term = t; type = A }))) ≡ false
+        typed : (t : Term) (r : Result Term) → r ≡ refused m p → succeeded (kind_test (r >>= λ A. ok (record { term = t; type = A }))) ≡ false
         typed t (ok A) e = absurd (clash (cc))
         typed t (refused m' p') e = refl
 
         go : (r : Result Term) → (r >>= λ t. infer Σ [] 0 t) ≡ refused m p
-            → succeeded (kind-test (r >>= λ t. infer Σ [] 0 t >>= λ A. ok (record { term = t; type = A }))) ≡ false
+            → succeeded (kind_test (r >>= λ t. infer Σ [] 0 t >>= λ A. ok (record { term = t; type = A }))) ≡ false
         go (ok t) e = typed t (infer Σ [] 0 t) e
         go (refused m' p') e = refl
 
-    test-is : (b : Bool) (t : Term) → succeeded (condition 0 b >> ok t) ≡ b
-    test-is true t = refl
-    test-is false t = refl
+    test_is : (b : Bool) (t : Term) → succeeded (condition 0 b >> ok t) ≡ b
+    test_is true t = refl
+    test_is false t = refl
 
-    typed-ok : (A : Term) → typed-term Σ most-words most-nesting (take n ws) ≡ ok A → succeeded (constant Σ (take n ws)) ≡ same A KindP
-    typed-ok A e = go (term_of most-words most-nesting (take n ws)) e
+    typed_ok : (A : Term) → typed_term Σ most_words most_nesting (take n ws) ≡ ok A → succeeded (constant Σ (take n ws)) ≡ same A KindP
+    typed_ok A e = go (term_of most_words most_nesting (take n ws)) e
       where
-        typed : (t : Term) (r : Result Term) → r ≡ ok A → succeeded (kind-test (r >>= λ A. ok (record { term = t; type = A }))) ≡ same A KindP
-        typed t r q = ap (λ r. succeeded (kind-test (r >>= λ A. ok (record { term = t; type = A })))) q ∙ test-is (same A KindP) t
+        typed : (t : Term) (r : Result Term) → r ≡ ok A → succeeded (kind_test (r >>= λ A. ok (record { term = t; type = A }))) ≡ same A KindP
+        typed t r q = ap (λ r. succeeded (kind_test (r >>= λ A. ok (record { term = t; type = A })))) q ∙ test_is (same A KindP) t
 
         go : (r : Result Term) → (r >>= λ t. infer Σ [] 0 t) ≡ ok A
-            → succeeded (kind-test (r >>= λ t. infer Σ [] 0 t >>= λ A. ok (record { term = t; type = A }))) ≡ same A KindP
+            → succeeded (kind_test (r >>= λ t. infer Σ [] 0 t >>= λ A. ok (record { term = t; type = A }))) ≡ same A KindP
         go (ok t) e = typed t (infer Σ [] 0 t) e
         go (refused m' p') e = absurd (clash (cc))
 
-    pub constant-not-typed : (new : List ℕ) (r : Derivation) (end m p : ℕ) → Judged (typed-term Σ most-words most-nesting (take n ws)) end new r
+    pub constant_not_typed : (new : List ℕ) (r : Derivation) (end m p : ℕ) → Judged (typed_term Σ most_words most_nesting (take n ws)) end new r
         → r ≡ Refused m p
-        → false ≡ constant-at Σ (drop at sig)
-    constant-not-typed new r end m p J q = sym (tests ∙ typed-refused m p (refused-by _ end J.answer m p q))
+        → false ≡ constant_at Σ (drop at sig)
+    constant_not_typed new r end m p J q = sym (tests ∙ typed_refused m p (refused_by _ end J.answer m p q))
 
-    pub typed-kind : (new : List ℕ) (r : Derivation) (end words e : ℕ) (b : Bool) → Judged (typed-term Σ most-words most-nesting (take n ws)) end new r
+    pub typed_kind : (new : List ℕ) (r : Derivation) (end words e : ℕ) (b : Bool) → Judged (typed_term Σ most_words most_nesting (take n ws)) end new r
         → r ≡ Typed words e
-        → ((A : Term) → TypeAt new 0 A → b ≡ same A KindP) → b ≡ constant-at Σ (drop at sig)
-    typed-kind new r end words e b J q f =
-        typed-by _ end J.answer words e q λ A i w l. sym (tests ∙ typed-ok A i ∙ sym (f A (subst (λ (x : Result Term). Front x new) i J.front)))
+        → ((A : Term) → TypeAt new 0 A → b ≡ same A KindP) → b ≡ constant_at Σ (drop at sig)
+    typed_kind new r end words e b J q f =
+        typed_by _ end J.answer words e q λ A i w l. sym (tests ∙ typed_ok A i ∙ sym (f A (subst (λ (x : Result Term). Front x new) i J.front)))
 
 -- ---- the types of a permit and of a receipt
 
-pub permit-passes : (Σ : List Term) → succeeded (constant Σ (encode (Pi S P))) ≡ true
-unfolding encode read too-deep infer size same-term
-permit-passes Σ = refl
+pub permit_passes : (Σ : List Term) → succeeded (constant Σ (encode (Pi S P))) ≡ true
+unfolding encode read too_deep infer size same_term
+permit_passes Σ = refl
 
-pub receipt-passes : (Σ : List Term) → succeeded (constant Σ (encode (Pi S (Pi S P)))) ≡ true
-unfolding encode read too-deep infer size same-term
-receipt-passes Σ = refl
+pub receipt_passes : (Σ : List Term) → succeeded (constant Σ (encode (Pi S (Pi S P)))) ≡ true
+unfolding encode read too_deep infer size same_term
+receipt_passes Σ = refl
 
 -- ---- the list
 
 -- the tests of a constant's length word
 abbrev listable : ℕ → List ℕ → Bool
-listable n ws = leb 1 n && leb n most-constant-words && leb n (length ws)
+listable n ws = leb 1 n && leb n most_constant_words && leb n (length ws)
 
-with-count : (b : Bool) (n : ℕ) (ws : List ℕ) → b ≡ true → (b && leb 1 n && leb n most-constant-words && leb n (length ws)) ≡ listable n ws
-with-count b n ws e = ap (λ (x : Bool). x && leb 1 n && leb n most-constant-words && leb n (length ws)) e
+with_count : (b : Bool) (n : ℕ) (ws : List ℕ) → b ≡ true → (b && leb 1 n && leb n most_constant_words && leb n (length ws)) ≡ listable n ws
+with_count b n ws e = ap (λ (x : Bool). x && leb 1 n && leb n most_constant_words && leb n (length ws)) e
 
-no-constant : (x : Result Term) (at : ℕ) (f : Term → Result (List Term)) → succeeded x ≡ false → (at_constant at x >>= f) ≡ refused bad-signature at
-no-constant (ok A) at f e = absurd (clash (cc))
-no-constant (refused m p) at f e = refl
+no_constant : (x : Result Term) (at : ℕ) (f : Term → Result (List Term)) → succeeded x ≡ false → (at_constant at x >>= f) ≡ refused bad_signature at
+no_constant (ok A) at f e = absurd (clash (cc))
+no_constant (refused m p) at f e = refl
 
 -- the list ends with a bad constant
-bad-constant : (k at : ℕ) (Σ : List Term) (ws : List ℕ) → 0 < length ws → constant-at Σ ws ≡ false → constants (suc k) at Σ ws ≡ refused bad-signature at
-unfolding constants constant-at
-bad-constant k at Σ [] l e = absurd (omega arith)
-bad-constant k at Σ (n ∷ ws) l e = go (ltb (length Σ) most-constants) (listable n ws) refl refl e
+bad_constant : (k at : ℕ) (Σ : List Term) (ws : List ℕ) → 0 < length ws → constant_at Σ ws ≡ false → constants (suc k) at Σ ws ≡ refused bad_signature at
+unfolding constants constant_at
+bad_constant k at Σ [] l e = absurd (omega arith)
+bad_constant k at Σ (n ∷ ws) l e = go (ltb (length Σ) most_constants) (listable n ws) refl refl e
   where
-    go : (c b : Bool) → ltb (length Σ) most-constants ≡ c → listable n ws ≡ b → (b && succeeded (constant Σ (take n ws))) ≡ false
-        → (require (ltb (length Σ) most-constants && leb 1 n && leb n most-constant-words && leb n (length ws)) bad-signature at >>
-        (at_constant at (constant Σ (take n ws)) >>= λ A. constants k (at + 1 + n) (Σ ++ (A ∷ [])) (drop n ws))) ≡ refused bad-signature at
-    go false b p q f = fail bad-signature at _ (ap (λ (x : Bool). x && leb 1 n && leb n most-constant-words && leb n (length ws)) p)
-    go true false p q f = fail bad-signature at _ (with-count _ n ws p ∙ q)
-    go true true p q f = pass bad-signature at (with-count _ n ws p ∙ q) (no-constant (constant Σ (take n ws)) at _ f)
+    go : (c b : Bool) → ltb (length Σ) most_constants ≡ c → listable n ws ≡ b → (b && succeeded (constant Σ (take n ws))) ≡ false
+        → (require (ltb (length Σ) most_constants && leb 1 n && leb n most_constant_words && leb n (length ws)) bad_signature at >>
+        (at_constant at (constant Σ (take n ws)) >>= λ A. constants k (at + 1 + n) (Σ ++ (A ∷ [])) (drop n ws))) ≡ refused bad_signature at
+    go false b p q f = fail bad_signature at _ (ap (λ (x : Bool). x && leb 1 n && leb n most_constant_words && leb n (length ws)) p)
+    go true false p q f = fail bad_signature at _ (with_count _ n ws p ∙ q)
+    go true true p q f = pass bad_signature at (with_count _ n ws p ∙ q) (no_constant (constant Σ (take n ws)) at _ f)
 
 -- or with one too many
-full-list : (k at : ℕ) (Σ : List Term) (ws : List ℕ) → 0 < length ws → most-constants ≤ length Σ → constants (suc k) at Σ ws ≡ refused bad-signature at
+full_list : (k at : ℕ) (Σ : List Term) (ws : List ℕ) → 0 < length ws → most_constants ≤ length Σ → constants (suc k) at Σ ws ≡ refused bad_signature at
 unfolding constants
-full-list k at Σ [] l h = absurd (omega arith)
-full-list k at Σ (n ∷ ws) l h =
-    fail bad-signature at _ (ap (λ (x : Bool). x && leb 1 n && leb n most-constant-words && leb n (length ws)) (le-ltb (length Σ) most-constants h))
+full_list k at Σ [] l h = absurd (omega arith)
+full_list k at Σ (n ∷ ws) l h =
+    fail bad_signature at _ (ap (λ (x : Bool). x && leb 1 n && leb n most_constant_words && leb n (length ws)) (le-ltb (length Σ) most_constants h))
 
 -- one constant more, whose type A stands behind its length word
 pub record One (Σ : List Term) (k at : ℕ) (ws : List ℕ) : Type 0 where
@@ -168,34 +168,34 @@ pub record One (Σ : List Term) (k at : ℕ) (ws : List ℕ) : Type 0 where
   pub goes_on : constants (suc k) at Σ ws ≡ constants k (at + 1 + get_or ws 0 0) (Σ ++ (type ∷ [])) (drop (1 + get_or ws 0 0) ws)
   pub words : take (get_or ws 0 0) (drop 1 ws) ≡ encode type
   pub plain : Plain type
-  pub small : get_or ws 0 0 ≤ most-constant-words
+  pub small : get_or ws 0 0 ≤ most_constant_words
   pub inside : 1 + get_or ws 0 0 ≤ length ws
 
 passed_ok : (x : Result Term) → succeeded x ≡ true → (A : Term) × (x ≡ ok A)
 passed_ok (ok A) e = (A, refl)
 passed_ok (refused m p) e = absurd (clash (cc))
 
-one : (Σ : List Term) → Signature Σ → (k at : ℕ) (ws : List ℕ) → length Σ < most-constants → constant-at Σ ws ≡ true → One Σ k at ws
-unfolding constants constant-at
+one : (Σ : List Term) → Signature Σ → (k at : ℕ) (ws : List ℕ) → length Σ < most_constants → constant_at Σ ws ≡ true → One Σ k at ws
+unfolding constants constant_at
 one Σ sg k at [] l e = absurd (clash (cc))
 one Σ sg k at (n ∷ ws) l e =
     let (b, c) = both_true (listable n ws) (succeeded (constant Σ (take n ws))) e in
-    let (b', fits) = both_true (leb 1 n && leb n most-constant-words) (leb n (length ws)) b in
-    let (_, short) = both_true (leb 1 n) (leb n most-constant-words) b' in
+    let (b', fits) = both_true (leb 1 n && leb n most_constant_words) (leb n (length ws)) b in
+    let (_, short) = both_true (leb 1 n) (leb n most_constant_words) b' in
     let (A, q) = passed_ok (constant Σ (take n ws)) c in
-    let P = (constant-right Σ sg (take n ws) A).0 q in
+    let P = (constant_right Σ sg (take n ws) A).0 q in
     let f = leb-true n (length ws) fits in
     let i : 1 + n ≡ suc n = omega arith in
     record {
       type = A;
       kind = P.derivation;
       goes_on =
-          pass bad-signature at (with-count _ n ws (lt-ltb (length Σ) most-constants l) ∙ b)
+          pass bad_signature at (with_count _ n ws (lt-ltb (length Σ) most_constants l) ∙ b)
           (ap (λ x. at_constant at x >>= λ A. constants k (at + 1 + n) (Σ ++ (A ∷ [])) (drop n ws)) q)
           ∙ ap (λ (j : ℕ). constants k (at + 1 + n) (Σ ++ (A ∷ [])) (drop j (n ∷ ws))) (sym i);
       words = P.term.words;
       plain = P.term.plain;
-      small = leb-true n most-constant-words short;
+      small = leb-true n most_constant_words short;
       inside = omega arith;
     }
 
@@ -207,21 +207,21 @@ ended k at Σ = refl
 pub record ReadUpTo (sig table : List ℕ) (at count : ℕ) : Type 0 where
   pub Σ : List Term
   pub k : ℕ
-  pub constants-are : ConstantsOf sig (take count table) Σ
+  pub constants_are : ConstantsOf sig (take count table) Σ
   pub is : signature sig ≡ constants k at Σ (drop at sig)
   pub enough : length sig < at + k
   pub counted : count ≡ length Σ
   pub within : at ≤ length sig
-  pub low : at ≤ count * (1 + most-constant-words)
+  pub low : at ≤ count * (1 + most_constant_words)
 
-pub read-up-to-start : (sig table : List ℕ) → ReadUpTo sig table 0 0
-read-up-to-start sig table = record {
+pub read_up_to_start : (sig table : List ℕ) → ReadUpTo sig table 0 0
+read_up_to_start sig table = record {
   Σ = [];
   k = suc (length sig);
-  constants-are =
+  constants_are =
       record {
-        declared = record { count = refl; type = λ n A e. absurd (no-entry e); length-word = λ n A e. absurd (no-entry e) };
-        signature = empty-signature;
+        declared = record { count = refl; type = λ n A e. absurd (no_entry e); length_word = λ n A e. absurd (no_entry e) };
+        signature = empty_signature;
       };
   is = refl;
   enough = omega arith;
@@ -231,26 +231,26 @@ read-up-to-start sig table = record {
 }
 
 -- the list is refused at a place
-refused-at : (sig table : List ℕ) (at k : ℕ) (Σ : List Term) (ws : List ℕ) → signature sig ≡ constants k at Σ ws → 0 < k
-    → ((k : ℕ) → constants (suc k) at Σ ws ≡ refused bad-signature at) → SignatureRead (signature sig) sig table (ListedRefused at)
-refused-at sig table at zero Σ ws e l f = absurd (omega arith)
-refused-at sig table at (suc k) Σ ws e l f = let q = e ∙ f k in record { answer = sym (stop _ q); constants = λ Σ i. absurd (not-ok (sym q ∙ i)) }
+refused_at : (sig table : List ℕ) (at k : ℕ) (Σ : List Term) (ws : List ℕ) → signature sig ≡ constants k at Σ ws → 0 < k
+    → ((k : ℕ) → constants (suc k) at Σ ws ≡ refused bad_signature at) → SignatureRead (signature sig) sig table (ListedRefused at)
+refused_at sig table at zero Σ ws e l f = absurd (omega arith)
+refused_at sig table at (suc k) Σ ws e l f = let q = e ∙ f k in record { answer = sym (stop _ q); constants = λ Σ i. absurd (not_ok (sym q ∙ i)) }
 
 module _ (sig table : List ℕ) (at count : ℕ) (R : ReadUpTo sig table at count) where
-  more-words : at < length sig → 0 < length (drop at sig)
-  more-words l = omega (arith, length-drop at sig)
+  more_words : at < length sig → 0 < length (drop at sig)
+  more_words l = omega (arith, length-drop at sig)
 
-  pub reading-full : (new : List ℕ) → at < length sig → most-constants ≤ count → SignatureRead (signature sig) sig new (ListedRefused at)
-  reading-full new l h =
-      refused-at sig new at R.k R.Σ (drop at sig) R.is (omega (arith, R.enough))
-      (λ k. full-list k at R.Σ (drop at sig) (more-words l) (omega (arith, R.counted)))
+  pub reading_full : (new : List ℕ) → at < length sig → most_constants ≤ count → SignatureRead (signature sig) sig new (ListedRefused at)
+  reading_full new l h =
+      refused_at sig new at R.k R.Σ (drop at sig) R.is (omega (arith, R.enough))
+      (λ k. full_list k at R.Σ (drop at sig) (more_words l) (omega (arith, R.counted)))
 
-  pub reading-bad : (new : List ℕ) → at < length sig → constant-at R.Σ (drop at sig) ≡ false → SignatureRead (signature sig) sig new (ListedRefused at)
-  reading-bad new l h =
-      refused-at sig new at R.k R.Σ (drop at sig) R.is (omega (arith, R.enough)) (λ k. bad-constant k at R.Σ (drop at sig) (more-words l) h)
+  pub reading_bad : (new : List ℕ) → at < length sig → constant_at R.Σ (drop at sig) ≡ false → SignatureRead (signature sig) sig new (ListedRefused at)
+  reading_bad new l h =
+      refused_at sig new at R.k R.Σ (drop at sig) R.is (omega (arith, R.enough)) (λ k. bad_constant k at R.Σ (drop at sig) (more_words l) h)
 
-  pub reading-done : length sig ≤ at → SignatureRead (signature sig) sig table (Accepted count)
-  reading-done l = go R.k R.is (omega (arith, R.enough))
+  pub reading_done : length sig ≤ at → SignatureRead (signature sig) sig table (Accepted count)
+  reading_done l = go R.k R.is (omega (arith, R.enough))
     where
       go : (k : ℕ) → signature sig ≡ constants k at R.Σ (drop at sig) → 0 < k → SignatureRead (signature sig) sig table (Accepted count)
       go zero e h = absurd (omega arith)
@@ -259,94 +259,94 @@ module _ (sig table : List ℕ) (at count : ℕ) (R : ReadUpTo sig table at coun
           record {
             answer = ap ok R.counted ∙ sym (bind_is _ q refl);
             constants =
-                λ Σ i. subst (λ (Σ : List Term). ConstantsOf sig (take (length Σ) table) Σ) (ok-inj (sym q ∙ i))
-                (subst (λ (n : ℕ). ConstantsOf sig (take n table) R.Σ) R.counted R.constants-are);
+                λ Σ i. subst (λ (Σ : List Term). ConstantsOf sig (take (length Σ) table) Σ) (ok_inj (sym q ∙ i))
+                (subst (λ (n : ℕ). ConstantsOf sig (take n table) R.Σ) R.counted R.constants_are);
           }
 
 -- the table with the place of one type more
-module _ (sig table : List ℕ) (x : ℕ) (Σ : List Term) (A : Term) (D : Declared sig table Σ) (here : At sig x A) (one-before : 1 ≤ x)
+module _ (sig table : List ℕ) (x : ℕ) (Σ : List Term) (A : Term) (D : Declared sig table Σ) (here : At sig x A) (one_before : 1 ≤ x)
     (length-there : get_or sig (x - 1) 0 ≡ size A) where
   entry_of : (P : Term → ℕ → Type 0) → ((n : ℕ) (B : Term) → get_elem? Σ n ≡ some B → P B (get_or table n 0)) → P A x → (n : ℕ) (B : Term)
       → get_elem? (Σ ++ (A ∷ [])) n ≡ some B → P B (get_or (table ++ (x ∷ [])) n 0)
-  entry_of P old new n B e = elim (entry-last Σ n e) [
+  entry_of P old new n B e = elim (entry_last Σ n e) [
     | inl (l, q) ↦ (let h : n < length table = omega (arith, D.count) in subst (P B) (sym (get_or-append table (x ∷ []) 0 n h)) (old n B q))
     | inr (h, q) ↦ (let k : n ≡ length table = h ∙ sym D.count in subst (P B)
         (sym (ap (λ (i : ℕ). get_or (table ++ (x ∷ [])) i 0) k ∙ get_or-append_seam table x [] 0)) (subst (λ (B : Term). P B x) q new))
   ]
 
-  more-declared : Declared sig (table ++ (x ∷ [])) (Σ ++ (A ∷ []))
-  more-declared = record {
+  more_declared : Declared sig (table ++ (x ∷ [])) (Σ ++ (A ∷ []))
+  more_declared = record {
     count = omega (arith, length-append table (x ∷ []), length-append Σ (A ∷ []), D.count);
     type = entry_of (λ B i. At sig i B) D.type here;
-    length-word = entry_of (λ B i. (1 ≤ i) × (get_or sig (i - 1) 0 ≡ size B)) D.length-word (one-before, length-there);
+    length_word = entry_of (λ B i. (1 ≤ i) × (get_or sig (i - 1) 0 ≡ size B)) D.length_word (one_before, length-there);
   }
 
-module _ (sig table : List ℕ) (at count : ℕ) (R : ReadUpTo sig table at count) (l : at < length sig) (few : count < most-constants)
-    (entries : length table ≡ most-constants) (fine : constant-at R.Σ (drop at sig) ≡ true) where
-  abbrev words-there : ℕ
-  words-there = get_or sig at 0
+module _ (sig table : List ℕ) (at count : ℕ) (R : ReadUpTo sig table at count) (l : at < length sig) (few : count < most_constants)
+    (entries : length table ≡ most_constants) (fine : constant_at R.Σ (drop at sig) ≡ true) where
+  abbrev words_there : ℕ
+  words_there = get_or sig at 0
 
-  one-here : (k : ℕ) → One R.Σ k at (drop at sig)
-  one-here k = one R.Σ R.constants-are.signature k at (drop at sig) (omega (arith, R.counted)) fine
+  one_here : (k : ℕ) → One R.Σ k at (drop at sig)
+  one_here k = one R.Σ R.constants_are.signature k at (drop at sig) (omega (arith, R.counted)) fine
 
-  length-word-is : get_or (drop at sig) 0 0 ≡ words-there
-  length-word-is = ap (λ (x : List ℕ). get_or x 0 0) (drop-one sig at l)
+  length_word_is : get_or (drop at sig) 0 0 ≡ words_there
+  length_word_is = ap (λ (x : List ℕ). get_or x 0 0) (drop_one sig at l)
 
   module _ (k : ℕ) (O : One R.Σ k at (drop at sig)) where
-    rest-words : drop 1 (drop at sig) ≡ drop (at + 1) sig
-    rest-words = drop-drop 1 at sig
+    rest_words : drop 1 (drop at sig) ≡ drop (at + 1) sig
+    rest_words = drop-drop 1 at sig
 
-    inside-there : at + 1 + words-there ≤ length sig
-    inside-there = omega (arith, O.inside, length-word-is, length-drop at sig)
+    inside_there : at + 1 + words_there ≤ length sig
+    inside_there = omega (arith, O.inside, length_word_is, length-drop at sig)
 
-    type-words : take words-there (drop (at + 1) sig) ≡ encode O.type
-    type-words = ap₂ (λ (i : ℕ) (x : List ℕ). take i x) (sym length-word-is) (sym rest-words) ∙ O.words
+    type_words : take words_there (drop (at + 1) sig) ≡ encode O.type
+    type_words = ap₂ (λ (i : ℕ) (x : List ℕ). take i x) (sym length_word_is) (sym rest_words) ∙ O.words
 
-    type-there : At sig (at + 1) O.type
-    type-there = record {
+    type_there : At sig (at + 1) O.type
+    type_there = record {
       plain = O.plain;
-      rest = drop words-there (drop (at + 1) sig);
-      words = sym (take-append-drop words-there (drop (at + 1) sig)) ∙ ap (λ (x : List ℕ). x ++ drop words-there (drop (at + 1) sig)) type-words;
+      rest = drop words_there (drop (at + 1) sig);
+      words = sym (take-append-drop words_there (drop (at + 1) sig)) ∙ ap (λ (x : List ℕ). x ++ drop words_there (drop (at + 1) sig)) type_words;
     }
 
-    type-size : words-there ≡ size O.type
-    type-size =
-        let a = length-take-le words-there (drop (at + 1) sig) (omega (arith, inside-there, length-drop (at + 1) sig)) in
-        sym a ∙ ap length type-words ∙ encode-size O.type
+    type_size : words_there ≡ size O.type
+    type_size =
+        let a = length-take-le words_there (drop (at + 1) sig) (omega (arith, inside_there, length-drop (at + 1) sig)) in
+        sym a ∙ ap length type_words ∙ encode_size O.type
 
-    more-table : take (count + 1) (set table count (at + 1)) ≡ take count table ++ ((at + 1) ∷ [])
-    more-table = ap (λ (i : ℕ). take i (set table count (at + 1))) (add-one count) ∙ take-suc-set table count (at + 1) (omega arith)
+    more_table : take (count + 1) (set table count (at + 1)) ≡ take count table ++ ((at + 1) ∷ [])
+    more_table = ap (λ (i : ℕ). take i (set table count (at + 1))) (add-one count) ∙ take-suc-set table count (at + 1) (omega arith)
 
-    reading-on : (K : R.k ≡ suc k) → ReadUpTo sig (set table count (at + 1)) (at + 1 + words-there) (count + 1)
-    reading-on K =
+    reading_on : (K : R.k ≡ suc k) → ReadUpTo sig (set table count (at + 1)) (at + 1 + words_there) (count + 1)
+    reading_on K =
         let b : at + 1 - 1 ≡ at = omega arith in
-        let d = more-declared sig (take count table) (at + 1) R.Σ O.type R.constants-are.declared type-there (omega arith)
-        (ap (λ (i : ℕ). get_or sig i 0) b ∙ type-size) in
-        let w : at + (1 + words-there) ≡ at + 1 + words-there = omega arith in
+        let d = more_declared sig (take count table) (at + 1) R.Σ O.type R.constants_are.declared type_there (omega arith)
+        (ap (λ (i : ℕ). get_or sig i 0) b ∙ type_size) in
+        let w : at + (1 + words_there) ≡ at + 1 + words_there = omega arith in
         record {
           Σ = R.Σ ++ (O.type ∷ []);
           k = k;
-          constants-are =
+          constants_are =
               record {
-                declared = subst (λ (x : List ℕ). Declared sig x (R.Σ ++ (O.type ∷ []))) (sym more-table) d;
-                signature = extend R.constants-are.signature O.kind;
+                declared = subst (λ (x : List ℕ). Declared sig x (R.Σ ++ (O.type ∷ []))) (sym more_table) d;
+                signature = extend R.constants_are.signature O.kind;
               };
           is = R.is ∙ ap (λ (i : ℕ). constants i at R.Σ (drop at sig)) K ∙ O.goes_on
-              ∙ ap (λ (i : ℕ). constants k (at + 1 + i) (R.Σ ++ (O.type ∷ [])) (drop (1 + i) (drop at sig))) length-word-is
-              ∙ ap (constants k (at + 1 + words-there) (R.Σ ++ (O.type ∷ []))) (drop-drop (1 + words-there) at sig ∙ ap (λ (i : ℕ). drop i sig) w);
+              ∙ ap (λ (i : ℕ). constants k (at + 1 + i) (R.Σ ++ (O.type ∷ [])) (drop (1 + i) (drop at sig))) length_word_is
+              ∙ ap (constants k (at + 1 + words_there) (R.Σ ++ (O.type ∷ []))) (drop-drop (1 + words_there) at sig ∙ ap (λ (i : ℕ). drop i sig) w);
           enough = omega (arith, R.enough, K);
           counted = omega (arith, R.counted, length-append R.Σ (O.type ∷ []));
-          within = inside-there;
-          low = omega (arith, R.low, O.small, length-word-is);
+          within = inside_there;
+          low = omega (arith, R.low, O.small, length_word_is);
         }
 
-  pub reading-more : ReadUpTo sig (set table count (at + 1)) (at + 1 + words-there) (count + 1)
-  reading-more = go R.k refl
+  pub reading_more : ReadUpTo sig (set table count (at + 1)) (at + 1 + words_there) (count + 1)
+  reading_more = go R.k refl
     where
-      go : (k : ℕ) → R.k ≡ k → ReadUpTo sig (set table count (at + 1)) (at + 1 + words-there) (count + 1)
+      go : (k : ℕ) → R.k ≡ k → ReadUpTo sig (set table count (at + 1)) (at + 1 + words_there) (count + 1)
       go zero K = absurd (omega (arith, R.enough))
-      go (suc k) K = reading-on k (one-here k) K
+      go (suc k) K = reading_on k (one_here k) K
 
   -- the words of the constant are within the list
-  pub more-inside : at + 1 + words-there ≤ length sig
-  more-inside = inside-there 0 (one-here 0)
+  pub more_inside : at + 1 + words_there ≤ length sig
+  more_inside = inside_there 0 (one_here 0)

@@ -1,7 +1,7 @@
 -- What the code of the signature list and of its permits and receipts is asked and what it ensures.
 use Rattle.std.specs.Prelude.{ℕ, ◌≤◌, ◌<◌, Bool, true, false, ◌&&◌, ◌≡◌, List, [], ◌∷◌, leb, length, take}
-use Rattle.logic.specs.Limits.{least-workspace, most-constants, most-constant-words}
-use Rattle.logic.specs.Refusals.{bad-signature}
+use Rattle.logic.specs.Limits.{least_workspace, most_constants, most_constant_words}
+use Rattle.logic.specs.Refusals.{bad_signature}
 use Rattle.logic.specs.Result.{Result, ok, refused, ◌>>=◌}
 use Rattle.logic.specs.Term.{Term}
 use Rattle.logic.specs.SignatureList.{constant}
@@ -13,7 +13,7 @@ use Rattle.signature.specs.declared.list.Listed.TheVariants.{Accepted, Refused}
 -- number, place and value of each case: how many constants, or the place of the first bad one's length word
 abbrev pub listed_answer : Listed → Result ℕ
 listed_answer (Accepted n) = ok n
-listed_answer (Refused p) = refused bad-signature p
+listed_answer (Refused p) = refused bad_signature p
 
 -- a signature list was read: the first words of the table say where the constants' types stand
 pub record SignatureRead (o : Result (List Term)) (sig table : List ℕ) (r : Listed) : Type 0 where
@@ -22,8 +22,8 @@ pub record SignatureRead (o : Result (List Term)) (sig table : List ℕ) (r : Li
 
 -- a table for as many constants as there may be, and a workspace that is not short
 pub record SignatureReadable (table ws : List ℕ) : Type 0 where
-  pub entries : length table ≡ most-constants
-  pub workspace : least-workspace ≤ length ws
+  pub entries : length table ≡ most_constants
+  pub workspace : least_workspace ≤ length ws
 
 -- whether tests passed
 abbrev pub succeeded : {X : Type 0} → Result X → Bool
@@ -31,15 +31,15 @@ succeeded (ok x) = true
 succeeded (refused m p) = false
 
 -- behind the constants Σ the list goes on with one more
-unfoldable pub constant-at : List Term → List ℕ → Bool
-constant-at Σ [] = false
-constant-at Σ (n ∷ ws) = leb 1 n && leb n most-constant-words && leb n (length ws) && succeeded (constant Σ (take n ws))
+unfoldable pub constant_at : List Term → List ℕ → Bool
+constant_at Σ [] = false
+constant_at Σ (n ∷ ws) = leb 1 n && leb n most_constant_words && leb n (length ws) && succeeded (constant Σ (take n ws))
 
 -- there are constants, the workspace is not short, and a word stands at the place `at` of the list
 pub record Listable (sig table ws : List ℕ) (at : ℕ) : Type 0 where
   pub Σ : List Term
   pub constants : ConstantsOf sig table Σ
-  pub workspace : least-workspace ≤ length ws
+  pub workspace : least_workspace ≤ length ws
   pub inside : at < length sig
 
 -- there are constants whose types stand where the table says

@@ -3,7 +3,7 @@ ghost use Rattle.std.specs.Prelude.{◌≡◌, true, List, drop};
 ghost use Rattle.logic.specs.Term.{Term};
 ghost use Rattle.logic.specs.SignatureList.{signature, constant as constant-type};
 ghost use Rattle.typing.specs.Check.{ConstantsOf};
-ghost use Rattle.signature.specs.Listing.{constant-at, succeeded, Listable, SignatureRead, SignatureReadable};
+ghost use Rattle.signature.specs.Listing.{constant_at, succeeded, Listable, SignatureRead, SignatureReadable};
 
 use logic::limit::{MOST_CONSTANT_WORDS, MOST_CONSTANTS, MOST_NESTING, MOST_WORDS};
 use logic::word::{KIND_P, PI, PROP, STRING};
@@ -36,7 +36,7 @@ fn common(words: &[u32]) -> bool
 // type that passes the check with type KindP.
 fn constant(sig: &[u32], table: &[u32], at: usize, ws: &mut [u32]) -> bool
     requires { Listable sig.now table.now ws.old at }
-    ensures { (Σ : List Term) → ConstantsOf sig.now table.now Σ → result ≡ constant-at Σ (drop at sig.now) }
+    ensures { (Σ : List Term) → ConstantsOf sig.now table.now Σ → result ≡ constant_at Σ (drop at sig.now) }
 {
     let n = sig[at] as usize;
     if n < 1 {

@@ -2,7 +2,7 @@
 ghost use Rattle.std.specs.Prelude.{◌≡◌, List};
 ghost use Rattle.std.proofs.Math.ListN.{get_elem?};
 ghost use Rattle.logic.specs.Term.{Term, encode};
-ghost use Rattle.logic.specs.SignatureList.{is-type, operations-test};
+ghost use Rattle.logic.specs.SignatureList.{is_type, operations_test};
 ghost use Rattle.logic.specs.Reading.{InRange};
 ghost use Rattle.rules.specs.Scope.{Declared};
 ghost use Rattle.signature.specs.Listing.{Declares};
@@ -15,7 +15,7 @@ use parts::same;
 fn constant_is(sig: &[u32], table: &[u32], i: usize, words: &[u32]) -> bool
     requires { Declares sig.now table.now }
     ensures { (Σ : List Term) → (A : Term) → Declared sig.now table.now Σ → words.now ≡ encode A → InRange A
-        → result ≡ is-type A (get_elem? Σ i) }
+        → result ≡ is_type A (get_elem? Σ i) }
 {
     if table.len() <= i {
         return false;
@@ -29,7 +29,7 @@ fn constant_is(sig: &[u32], table: &[u32], i: usize, words: &[u32]) -> bool
 // permits, Pi S P, and their receipts, Pi S Pi S P.
 pub fn operations(sig: &[u32], table: &[u32], n: u32) -> bool
     requires { Declares sig.now table.now }
-    ensures { (Σ : List Term) → Declared sig.now table.now Σ → result ≡ operations-test Σ n }
+    ensures { (Σ : List Term) → Declared sig.now table.now Σ → result ≡ operations_test Σ n }
 {
     let count = n as usize;
     if count < 1 {

@@ -20,11 +20,11 @@ pub record SomeAsked (ws : List ℕ) : Type 0 where
   pub before : AskedBefore ws asked
 
 -- a refusal's number, or 0
-abbrev pub or-zero : Option ℕ → ℕ
-or-zero none = 0
-or-zero (some m) = m
+abbrev pub or_zero : Option ℕ → ℕ
+or_zero none = 0
+or_zero (some m) = m
 
 -- test 14: number and place of each case
-abbrev pub miss-answer : Missed → Result (Unit {0})
-miss-answer Nowhere = ok tt
-miss-answer (At m p) = refused m p
+abbrev pub miss_answer : Missed → Result (Unit {0})
+miss_answer Nowhere = ok tt
+miss_answer (At m p) = refused m p

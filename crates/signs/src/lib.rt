@@ -1,16 +1,18 @@
 // Test 14: the Signs of a term, each sought among the statements held and among the receipts of requests before.
+#![tactic(auto)]
+
 ghost use Rattle.std.specs.Prelude.{◌≡◌, List, ℕ, ◌<◌};
-ghost use Rattle.logic.specs.Limits.{payloads, most-operations};
+ghost use Rattle.logic.specs.Limits.{payloads, most_operations};
 ghost use Rattle.logic.specs.Term.{Term};
 ghost use Rattle.words.specs.Place.{Is};
-ghost use Rattle.register.specs.Records.{Record, Ask, ask-of, receipt-words, same-words, statements};
-ghost use Rattle.register.specs.Calls.{sign-refusal, signs-held};
-ghost use Rattle.register.specs.BatchTests.{AskedBefore, with-receipts};
+ghost use Rattle.register.specs.Records.{Record, Ask, ask_of, receipt_words, same_words, statements};
+ghost use Rattle.register.specs.Calls.{sign_refusal, signs_held};
+ghost use Rattle.register.specs.BatchTests.{AskedBefore, with_receipts};
 ghost use Rattle.register.specs.BatchTests.{receipted as receipted-of};
 ghost use Rattle.search.specs.Sources.{SourceOf, Searchable};
-ghost use Rattle.sought.specs.Sought.{found-answer, sought};
+ghost use Rattle.sought.specs.Sought.{found_answer, sought};
 ghost use Rattle.buckets.specs.Buckets.{Buckets};
-ghost use Rattle.signs.specs.Answers.{IsTerm, SomeAsked, or-zero, miss-answer};
+ghost use Rattle.signs.specs.Answers.{IsTerm, SomeAsked, or_zero, miss_answer};
 
 use buckets::look_up;
 use logic::refusal::{HELD_OUTSIDE, NOT_HELD};
@@ -29,9 +31,9 @@ pub enum Missed {
 
 // Whether a request's receipt, App App C(2i+1) sv su, has these words.
 fn receipt_says(operation: u32, extract: u32, delivery: u32, words: &[u32]) -> bool
-    requires { (operation < most-operations) × (extract < payloads) × (delivery < payloads) }
+    requires { (operation < most_operations) × (extract < payloads) × (delivery < payloads) }
     ensures { (day : ℕ) → (proof : List ℕ)
-        → result ≡ same-words (receipt-words (ask-of operation extract delivery day proof)) words.now }
+        → result ≡ same_words (receipt_words (ask_of operation extract delivery day proof)) words.now }
 {
     let receipt = [
         APP,
@@ -81,7 +83,7 @@ fn find_behind(
 ) -> Found
     requires { Searchable source list.now × Buckets source list.now buckets.now × SomeAsked asked.now }
     ensures { (rs : List Record) → (ks : List Ask) → SourceOf source list.now rs → AskedBefore asked.now ks
-        → found-answer result ≡ with-receipts ks (sought when (statements rs)) principal words.now }
+        → found_answer result ≡ with_receipts ks (sought when (statements rs)) principal words.now }
 {
     let serves = receipted(asked, principal, words);
     if serves {
@@ -92,7 +94,7 @@ fn find_behind(
 
 // The refusal of a Sign, or 0: "A Sign held only outside the day is 22 in the place of 14".
 fn sign_refusal(found: Found) -> u32
-    ensures { result ≡ or-zero (sign-refusal (found-answer found)) }
+    ensures { result ≡ or_zero (sign_refusal (found_answer found)) }
 {
     match found {
         Found::Covered => 0,
@@ -113,7 +115,7 @@ pub fn first_miss_behind(
     requires { Searchable source list.now × Buckets source list.now buckets.now × SomeAsked asked.now × IsTerm term.now }
     ensures { (rs : List Record) → (ks : List Ask) → (t : Term) → SourceOf source list.now rs
         → AskedBefore asked.now ks → Is term.now t
-        → miss-answer result ≡ signs-held (with-receipts ks (sought when (statements rs))) t }
+        → miss_answer result ≡ signs_held (with_receipts ks (sought when (statements rs))) t }
 {
     let mut i = 0;
     while i < term.len() {
@@ -146,7 +148,7 @@ pub fn first_miss_behind(
 pub fn first_miss(source: Source, list: &[u32], term: &[u32], when: When) -> Missed
     requires { Searchable source list.now × IsTerm term.now }
     ensures { (rs : List Record) → (t : Term) → SourceOf source list.now rs
-        → Is term.now t → miss-answer result ≡ signs-held (sought when (statements rs)) t }
+        → Is term.now t → miss_answer result ≡ signs_held (sought when (statements rs)) t }
 {
     let empty = [0usize; 1];
     first_miss_behind(source, list, &empty, &term[..0], term, when)

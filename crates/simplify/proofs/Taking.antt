@@ -7,24 +7,24 @@ use mathlib.Core.Option.{Option, some, none}
 use lib.Dec.{leb}
 use lib.ListN.{length}
 use borrow.Author.Tests.{le-leb, lt-leb, leb-true, leb-false, lt-ltb}
-use Rattle.logic.specs.Limits.{most-words, most-nesting}
-use Rattle.logic.specs.Refusals.{term-length, nesting, step-remains}
+use Rattle.logic.specs.Limits.{most_words, most_nesting}
+use Rattle.logic.specs.Refusals.{term_length, nesting, step_remains}
 use Rattle.logic.specs.Result.{Result, ok, refused, ◌>>◌, nowhere}
 use Rattle.logic.specs.Term.{Term, encode, size}
 use Rattle.logic.specs.Reading.{Plain}
 use Rattle.logic.proofs.Basics.{clash, some_inj}
-use Rattle.logic.proofs.Results.{ok-inj, pass, then_is}
-use Rattle.logic.proofs.Stopped.{fail, stop-then}
+use Rattle.logic.proofs.Results.{ok_inj, pass, then_is}
+use Rattle.logic.proofs.Stopped.{fail, stop_then}
 use Rattle.words.specs.Place.{At, written_at}
-use Rattle.words.specs.Nesting.{nested-to}
-use Rattle.words.proofs.Nestings.{within-is, past_is}
-use Rattle.moves.proofs.Cases.{cond-given, cond-not-given}
-use Rattle.reduction.specs.Steps.{next-step}
-use Rattle.reduction.specs.Simplify.{in-limits}
-use Rattle.steps.specs.Step.{SteppedTo, stepped-answer}
+use Rattle.words.specs.Nesting.{nested_to}
+use Rattle.words.proofs.Nestings.{within_is, past_is}
+use Rattle.moves.proofs.Cases.{cond_given, cond_not_given}
+use Rattle.reduction.specs.Steps.{next_step}
+use Rattle.reduction.specs.Simplify.{in_limits}
+use Rattle.steps.specs.Step.{SteppedTo, stepped_answer}
 use Rattle.steps.specs.declared.step.Stepped.{Stepped}
 use Rattle.steps.specs.declared.step.Stepped.TheVariants.{Done, Over}
-use Rattle.steps.proofs.StepWords.{unique-at}
+use Rattle.steps.proofs.StepWords.{unique_at}
 use Rattle.simplify.specs.Turn.{turned, TurnedTo}
 use Rattle.simplify.specs.declared.reduce.Turn.TheVariants.{Stepped as Taken, Settled, Refused}
 
@@ -34,54 +34,54 @@ front_at old t p = record { plain = p; rest = _; words = refl }
 
 -- ---- what forming the result tells
 
-pub stepped-over : {u : Term} {old new : List ℕ} {r : Stepped} → SteppedTo u old new r → r ≡ Over → length old < size u
-stepped-over {u} {old} s e = leb-false (size u) (length old) (cond-not-given (leb (size u) (length old)) (size u) (sym (ap stepped-answer e) ∙ s.answer))
+pub stepped_over : {u : Term} {old new : List ℕ} {r : Stepped} → SteppedTo u old new r → r ≡ Over → length old < size u
+stepped_over {u} {old} s e = leb-false (size u) (length old) (cond_not_given (leb (size u) (length old)) (size u) (sym (ap stepped_answer e) ∙ s.answer))
 
 pub record ResultFormed (u : Term) (new : List ℕ) (n room : ℕ) : Type 0 where
   pub count : n ≡ size u
   pub fits : size u ≤ room
   pub here : Plain u → At new 0 u
 
-pub stepped-done : {u : Term} {old new : List ℕ} {r : Stepped} {n : ℕ} → SteppedTo u old new r → r ≡ Done n → ResultFormed u new n (length old)
-stepped-done {u} {old} s e =
-    let (b, q) = cond-given (leb (size u) (length old)) (size u) (sym (ap stepped-answer e) ∙ s.answer) in
+pub stepped_done : {u : Term} {old new : List ℕ} {r : Stepped} {n : ℕ} → SteppedTo u old new r → r ≡ Done n → ResultFormed u new n (length old)
+stepped_done {u} {old} s e =
+    let (b, q) = cond_given (leb (size u) (length old)) (size u) (sym (ap stepped_answer e) ∙ s.answer) in
     let l = leb-true (size u) (length old) b in
     record { count = q; fits = l; here = λ p. rw (s.words l) (front_at old u p) }
 
 -- ---- the limits of a result
 
-pub limit-words : (u : Term) → most-words < size u → in-limits u ≡ refused term-length 0
-limit-words u l = fail term-length 0 _ (lt-leb (size u) most-words l)
+pub limit_words : (u : Term) → most_words < size u → in_limits u ≡ refused term_length 0
+limit_words u l = fail term_length 0 _ (lt-leb (size u) most_words l)
 
-pub limit-nesting : (u : Term) (p : ℕ) → size u ≤ most-words → nested-to most-nesting 0 u ≡ refused nesting p → in-limits u ≡ refused nesting p
-limit-nesting u p l e = pass term-length 0 (le-leb (size u) most-words l) (ap (nowhere nesting) (past_is most-nesting 0 p u e))
+pub limit_nesting : (u : Term) (p : ℕ) → size u ≤ most_words → nested_to most_nesting 0 u ≡ refused nesting p → in_limits u ≡ refused nesting p
+limit_nesting u p l e = pass term_length 0 (le-leb (size u) most_words l) (ap (nowhere nesting) (past_is most_nesting 0 p u e))
 
-pub limits-passed : (u : Term) (end : ℕ) → size u ≤ most-words → nested-to most-nesting 0 u ≡ ok end → in-limits u ≡ ok tt
-limits-passed u end l e = pass term-length 0 (le-leb (size u) most-words l) (ap (nowhere nesting) (within-is most-nesting 0 end u e).0)
+pub limits_passed : (u : Term) (end : ℕ) → size u ≤ most_words → nested_to most_nesting 0 u ≡ ok end → in_limits u ≡ ok tt
+limits_passed u end l e = pass term_length 0 (le-leb (size u) most_words l) (ap (nowhere nesting) (within_is most_nesting 0 end u e).0)
 
 -- ---- what the code returns, of any term that stands in front
 
 -- no step is left
-pub turn-settled : {from new : List ℕ} {t : Term} (left : ℕ) → At from 0 t → next-step t ≡ none → (x : Term) → At from 0 x →
-    TurnedTo (turned left (next-step x)) new Settled
-turn-settled {new = new} left h e x k = rw (unique-at k h, e) (record { answer = refl; front = λ u i. absurd (clash (cc)) })
+pub turn_settled : {from new : List ℕ} {t : Term} (left : ℕ) → At from 0 t → next_step t ≡ none → (x : Term) → At from 0 x →
+    TurnedTo (turned left (next_step x)) new Settled
+turn_settled {new = new} left h e x k = rw (unique_at k h, e) (record { answer = refl; front = λ u i. absurd (clash (cc)) })
 
 -- a step is left, and so is some of the budget
-left_over : (u : Term) (left : ℕ) {o : Result (Option Term)} → (left ≡ 0 → ⊥) → (in-limits u >> ok (some u)) ≡ o → turned left (some u) ≡ o
-left_over u left z q = pass step-remains 0 (lt-ltb 0 left (omega arith)) q
+left_over : (u : Term) (left : ℕ) {o : Result (Option Term)} → (left ≡ 0 → ⊥) → (in_limits u >> ok (some u)) ≡ o → turned left (some u) ≡ o
+left_over u left z q = pass step_remains 0 (lt-ltb 0 left (omega arith)) q
 
-module _ {from : List ℕ} {t u : Term} (left : ℕ) (h : At from 0 t) (e : next-step t ≡ some u) {new : List ℕ} where
-  turn-refused : (m p : ℕ) → turned left (some u) ≡ refused m p → (x : Term) → At from 0 x → TurnedTo (turned left (next-step x)) new (Refused m p)
-  turn-refused m p q x k = rw (unique-at k h, e, q) (record { answer = refl; front = λ u i. absurd (clash (cc)) })
+module _ {from : List ℕ} {t u : Term} (left : ℕ) (h : At from 0 t) (e : next_step t ≡ some u) {new : List ℕ} where
+  turn_refused : (m p : ℕ) → turned left (some u) ≡ refused m p → (x : Term) → At from 0 x → TurnedTo (turned left (next_step x)) new (Refused m p)
+  turn_refused m p q x k = rw (unique_at k h, e, q) (record { answer = refl; front = λ u i. absurd (clash (cc)) })
 
-  pub turn-used : left ≡ 0 → (x : Term) → At from 0 x → TurnedTo (turned left (next-step x)) new (Refused step-remains 0)
-  turn-used z = turn-refused step-remains 0 (ap (λ (k : ℕ). turned k (some u)) z)
+  pub turn_used : left ≡ 0 → (x : Term) → At from 0 x → TurnedTo (turned left (next_step x)) new (Refused step_remains 0)
+  turn_used z = turn_refused step_remains 0 (ap (λ (k : ℕ). turned k (some u)) z)
 
   module _ (z : left ≡ 0 → ⊥) where
-    pub turn-limited : (m p : ℕ) → in-limits u ≡ refused m p → (x : Term) → At from 0 x → TurnedTo (turned left (next-step x)) new (Refused m p)
-    turn-limited m p q = turn-refused m p (left_over u left z (stop-then _ q))
+    pub turn_limited : (m p : ℕ) → in_limits u ≡ refused m p → (x : Term) → At from 0 x → TurnedTo (turned left (next_step x)) new (Refused m p)
+    turn_limited m p q = turn_refused m p (left_over u left z (stop_then _ q))
 
-    pub turn-stepped : {n : ℕ} → in-limits u ≡ ok tt → n ≡ size u → At new 0 u → (x : Term) → At from 0 x → TurnedTo (turned left (next-step x)) new (Taken n)
-    turn-stepped {n} q c a x k =
+    pub turn_stepped : {n : ℕ} → in_limits u ≡ ok tt → n ≡ size u → At new 0 u → (x : Term) → At from 0 x → TurnedTo (turned left (next_step x)) new (Taken n)
+    turn_stepped {n} q c a x k =
         let o = left_over u left z (then_is _ q refl) in
-        rw (unique-at k h, e, o) (record { answer = ap (λ (y : ℕ). ok (some y)) c; front = λ v i. subst (At new 0) (some_inj (ok-inj i)) a })
+        rw (unique_at k h, e, o) (record { answer = ap (λ (y : ℕ). ok (some y)) c; front = λ v i. subst (At new 0) (some_inj (ok_inj i)) a })

@@ -10,25 +10,25 @@ use lib.ListN.{length}
 use borrow.Author.Tests.{leb-true, ltb-true, lt-ltb}
 use types.Run.{OneOf}
 use denote.Enum.Declared.{tag_of}
-use Rattle.logic.specs.Limits.{most-words}
-use Rattle.logic.specs.Refusals.{step-remains}
+use Rattle.logic.specs.Limits.{most_words}
+use Rattle.logic.specs.Refusals.{step_remains}
 use Rattle.logic.specs.Result.{Result, ok, refused, ◌>>=◌, ◌>>◌}
 use Rattle.logic.specs.Term.{Term, size}
 use Rattle.logic.specs.Typing.{Has}
 use Rattle.logic.specs.Reading.{Plain}
 use Rattle.logic.proofs.Basics.{clash, some_inj}
-use Rattle.logic.proofs.Results.{ok-inj, bound, tested, followed, bind_is, pass}
-use Rattle.logic.proofs.Stopped.{not-mapped, stop}
-use Rattle.logic.proofs.SubjectReduction.{subject-reduction}
+use Rattle.logic.proofs.Results.{ok_inj, bound, tested, followed, bind_is, pass}
+use Rattle.logic.proofs.Stopped.{not_mapped, stop}
+use Rattle.logic.proofs.SubjectReduction.{subject_reduction}
 use Rattle.words.specs.Place.{At}
-use Rattle.words.proofs.Places.{at-end}
-use Rattle.reduction.specs.Steps.{next-step}
-use Rattle.reduction.specs.Simplify.{Simplified, in-limits, unstepped, one-before, at-budget, from_step, simplify}
-use Rattle.reduction.specs.Call.{fitting-result, simplify-into}
-use Rattle.reduction.proofs.Steps.{next-some}
-use Rattle.reduction.proofs.Types.{step-plain}
-use Rattle.steps.proofs.StepWords.{unique-at}
-use Rattle.simplify.specs.Turn.{Turnable, turned, turn-answer, TurnedTo}
+use Rattle.words.proofs.Places.{at_end}
+use Rattle.reduction.specs.Steps.{next_step}
+use Rattle.reduction.specs.Simplify.{Simplified, in_limits, unstepped, one_before, at_budget, from_step, simplify}
+use Rattle.reduction.specs.Call.{fitting_result, simplify_into}
+use Rattle.reduction.proofs.Steps.{next_some}
+use Rattle.reduction.proofs.Types.{step_plain}
+use Rattle.steps.proofs.StepWords.{unique_at}
+use Rattle.simplify.specs.Turn.{Turnable, turned, turn_answer, TurnedTo}
 use Rattle.simplify.specs.Answers.{Subject, at_last, SimplifiedAs}
 use Rattle.simplify.specs.declared.reduce.Simplification.{Simplification}
 use Rattle.simplify.specs.contracts.reduce.Turn.{the_type}
@@ -40,46 +40,46 @@ use Rattle.simplify.specs.declared.reduce.Turn.TheVariants.{Stepped, Settled, Re
 -- what follows a turn
 abbrev follows : (left : ℕ) → Term → Result (Option Term) → Result Simplified
 follows left t (ok none) = ok (unstepped t)
-follows left t (ok (some u)) = simplify (left - 1) u >>= λ r. ok (one-before r)
+follows left t (ok (some u)) = simplify (left - 1) u >>= λ r. ok (one_before r)
 follows left t (refused m p) = refused m p
 
-simplify-turn : (left : ℕ) (t : Term) → simplify left t ≡ follows left t (turned left (next-step t))
+simplify_turn : (left : ℕ) (t : Term) → simplify left t ≡ follows left t (turned left (next_step t))
 unfolding simplify
-simplify-turn zero t = go (next-step t)
+simplify_turn zero t = go (next_step t)
   where
-    go : (q : Option Term) → at-budget t q ≡ follows 0 t (turned 0 q)
+    go : (q : Option Term) → at_budget t q ≡ follows 0 t (turned 0 q)
     go none = refl
     go (some u) = refl
-simplify-turn (suc k) t = go (next-step t)
+simplify_turn (suc k) t = go (next_step t)
   where
-    limited : (u : Term) (o : Result (Unit {0})) → (o >> (simplify k u >>= λ r. ok (one-before r))) ≡ follows (suc k) t (o >> ok (some u))
-    limited u (ok x) = let e : k ≡ suc k - 1 = omega arith in ap (λ (n : ℕ). simplify n u >>= λ r. ok (one-before r)) e
+    limited : (u : Term) (o : Result (Unit {0})) → (o >> (simplify k u >>= λ r. ok (one_before r))) ≡ follows (suc k) t (o >> ok (some u))
+    limited u (ok x) = let e : k ≡ suc k - 1 = omega arith in ap (λ (n : ℕ). simplify n u >>= λ r. ok (one_before r)) e
     limited u (refused m p) = refl
 
     go : (q : Option Term) → from_step t q (simplify k) ≡ follows (suc k) t (turned (suc k) q)
     go none = refl
-    go (some u) = limited u (in-limits u) ∙ ap (follows (suc k) t) (sym (pass step-remains 0 (lt-ltb 0 (suc k) (omega arith)) refl))
+    go (some u) = limited u (in_limits u) ∙ ap (follows (suc k) t) (sym (pass step_remains 0 (lt-ltb 0 (suc k) (omega arith)) refl))
 
 -- what follows after so many steps
-abbrev after-steps : ℕ → Result Simplified → Result Simplified
-after-steps k o = o >>= λ s. ok (record { steps = k + s.steps; result = s.result })
+abbrev after_steps : ℕ → Result Simplified → Result Simplified
+after_steps k o = o >>= λ s. ok (record { steps = k + s.steps; result = s.result })
 
-no_steps : (k : ℕ) (o : Result Simplified) → k ≡ 0 → o ≡ after-steps k o
+no_steps : (k : ℕ) (o : Result Simplified) → k ≡ 0 → o ≡ after_steps k o
 no_steps k (ok s) e = let i : s.steps ≡ k + s.steps = omega arith in ap (λ n. ok (record { steps = n; result = s.result })) i
 no_steps k (refused m p) e = refl
 
-one_more : (k n : ℕ) (o : Result Simplified) → n ≡ k + 1 → after-steps k (o >>= λ r. ok (one-before r)) ≡ after-steps n o
+one_more : (k n : ℕ) (o : Result Simplified) → n ≡ k + 1 → after_steps k (o >>= λ r. ok (one_before r)) ≡ after_steps n o
 one_more k n (ok s) e = let i : k + suc s.steps ≡ n + s.steps = omega arith in ap (λ x. ok (record { steps = x; result = s.result })) i
 one_more k n (refused m p) e = refl
 
 -- ---- the term that a step gives is typed, and has words
 
-module _ {ws : List ℕ} {n : ℕ} (s : Subject ws n) (u : Term) (e : next-step s.term ≡ some u) where
+module _ {ws : List ℕ} {n : ℕ} (s : Subject ws n) (u : Term) (e : next_step s.term ≡ some u) where
   step_typed : Has s.Σ [] u s.type
-  step_typed = subject-reduction s.Σ s.signature ((next-some s.term u).0 e).taken s.typed
+  step_typed = subject_reduction s.Σ s.signature ((next_some s.term u).0 e).taken s.typed
 
-  pub step-has-words : size u ≤ most-words → Plain u
-  step-has-words l = step-plain ((next-some s.term u).0 e).taken step_typed (omega arith) s.here.plain
+  pub step_has_words : size u ≤ most_words → Plain u
+  step_has_words l = step_plain ((next_some s.term u).0 e).taken step_typed (omega arith) s.here.plain
 
 -- ---- turns
 
@@ -87,13 +87,13 @@ module _ {ws : List ℕ} {n : ℕ} (s : Subject ws n) (u : Term) (e : next-step 
 pub record StepTurn (start : List ℕ) (budget : ℕ) (ws : List ℕ) (n left : ℕ) : Type 0 where
   pub subject : Subject ws n
   pub within : left ≤ budget
-  pub so_far : (t : Term) → At start 0 t → simplify budget t ≡ after-steps (budget - left) (simplify left subject.term)
+  pub so_far : (t : Term) → At start 0 t → simplify budget t ≡ after_steps (budget - left) (simplify left subject.term)
 
-pub first-turn : {ws : List ℕ} {n : ℕ} (budget : ℕ) → Subject ws n → StepTurn ws budget ws n budget
-first-turn budget s = record {
+pub first_turn : {ws : List ℕ} {n : ℕ} (budget : ℕ) → Subject ws n → StepTurn ws budget ws n budget
+first_turn budget s = record {
   subject = s;
   within = omega arith;
-  so_far = λ t h. ap (simplify budget) (unique-at h s.here) ∙ no_steps (budget - budget) (simplify budget s.term) (omega arith);
+  so_far = λ t h. ap (simplify budget) (unique_at h s.here) ∙ no_steps (budget - budget) (simplify budget s.term) (omega arith);
 }
 
 -- a step was taken
@@ -102,16 +102,16 @@ record Took (left : ℕ) (q : Option Term) (m : ℕ) (new : List ℕ) : Type 0 w
   pub is : turned left q ≡ ok (some u)
   pub step : q ≡ some u
   pub some_left : 1 ≤ left
-  pub small : size u ≤ most-words
+  pub small : size u ≤ most_words
   pub count : m ≡ size u
   pub here : At new 0 u
 
 took : (left : ℕ) (q : Option Term) {r : Turn} {m : ℕ} {new : List ℕ} → TurnedTo (turned left q) new r → r ≡ Stepped m → Took left q m new
-took left none k e = absurd (clash (cc (sym (ap turn-answer e) ∙ k.answer)))
-took left (some u) {m = m} {new} k e = bound (turned left (some u)) _ (sym k.answer ∙ ap turn-answer e) λ v i j.
-    tested (ltb 0 left) step-remains 0 _ i λ b i₁. followed (in-limits u) _ i₁ λ x l i₂.
-    tested (leb (size u) most-words) _ _ _ l λ w _.
-    let same = ok-inj i₂ in
+took left none k e = absurd (clash (cc (sym (ap turn_answer e) ∙ k.answer)))
+took left (some u) {m = m} {new} k e = bound (turned left (some u)) _ (sym k.answer ∙ ap turn_answer e) λ v i j.
+    tested (ltb 0 left) step_remains 0 _ i λ b i₁. followed (in_limits u) _ i₁ λ x l i₂.
+    tested (leb (size u) most_words) _ _ _ l λ w _.
+    let same = ok_inj i₂ in
     let is = i ∙ ap ok (sym same) in
     let b = ltb-true 0 left b in
     record {
@@ -119,29 +119,29 @@ took left (some u) {m = m} {new} k e = bound (turned left (some u)) _ (sym k.ans
       is = is;
       step = refl;
       some_left = omega arith;
-      small = leb-true (size u) most-words w;
-      count = some_inj (ok-inj (sym j ∙ ap (λ y. ok (map size y)) (sym same)));
+      small = leb-true (size u) most_words w;
+      count = some_inj (ok_inj (sym j ∙ ap (λ y. ok (map size y)) (sym same)));
       here = k.front u is;
     }
 
 module _ {start : List ℕ} {budget : ℕ} {ws : List ℕ} {n left : ℕ} (T : StepTurn start budget ws n left) where
-  abbrev turn-of : Result (Option Term)
-  turn-of = turned left (next-step T.subject.term)
+  abbrev turn_of : Result (Option Term)
+  turn_of = turned left (next_step T.subject.term)
 
   -- the definition, behind this turn
-  by_turn : {o : Result (Option Term)} (t : Term) → At start 0 t → turn-of ≡ o →
-      simplify budget t ≡ after-steps (budget - left) (follows left T.subject.term o)
-  by_turn t h e = T.so_far t h ∙ ap (after-steps (budget - left)) (simplify-turn left T.subject.term ∙ ap (follows left T.subject.term) e)
+  by_turn : {o : Result (Option Term)} (t : Term) → At start 0 t → turn_of ≡ o →
+      simplify budget t ≡ after_steps (budget - left) (follows left T.subject.term o)
+  by_turn t h e = T.so_far t h ∙ ap (after_steps (budget - left)) (simplify_turn left T.subject.term ∙ ap (follows left T.subject.term) e)
 
   -- a step was taken
-  module _ {new : List ℕ} {r : Turn} {m : ℕ} (k : TurnedTo turn-of new r) (e : r ≡ Stepped m) where
+  module _ {new : List ℕ} {r : Turn} {m : ℕ} (k : TurnedTo turn_of new r) (e : r ≡ Stepped m) where
     pub some_left : 1 ≤ left
-    some_left = (took left (next-step T.subject.term) k e).some_left
+    some_left = (took left (next_step T.subject.term) k e).some_left
 
-    pub next-turn : StepTurn start budget new m (left - 1)
-    next-turn =
+    pub next_turn : StepTurn start budget new m (left - 1)
+    next_turn =
         let s = T.subject in
-        let f = took left (next-step s.term) k e in
+        let f = took left (next_step s.term) k e in
         record {
           subject = record {
             term = f.u;
@@ -159,42 +159,42 @@ module _ {start : List ℕ} {budget : ℕ} {ws : List ℕ} {n left : ℕ} (T : S
         }
 
   -- none was taken: the answer is that of the last turn
-  pub last_turn : (r : Turn) {new : List ℕ} → TurnedTo turn-of new r → OneOf (1 ∷ 2 ∷ []) (tag_of the_type r) → (room : ℕ) (t : Term) → At start 0 t →
-      simplify-into budget room t ≡ at_last r (budget - left) T.subject.term room
+  pub last_turn : (r : Turn) {new : List ℕ} → TurnedTo turn_of new r → OneOf (1 ∷ 2 ∷ []) (tag_of the_type r) → (room : ℕ) (t : Term) → At start 0 t →
+      simplify_into budget room t ≡ at_last r (budget - left) T.subject.term room
   last_turn (Stepped m) k e room t h = elim e [ inl x ↦ absurd (omega arith) | inr x ↦ absurd (omega arith) ]
-  last_turn Settled k e room t h = bound turn-of _ (sym k.answer) λ v i j.
+  last_turn Settled k e room t h = bound turn_of _ (sym k.answer) λ v i j.
       let z : budget - left + 0 ≡ budget - left = omega arith in
-      bind_is (fitting-result room) (by_turn t h (i ∙ ap ok (unmapped v (ok-inj j))))
-      (ap (λ (x : ℕ). fitting-result room (record { steps = x; result = T.subject.term })) z)
+      bind_is (fitting_result room) (by_turn t h (i ∙ ap ok (unmapped v (ok_inj j))))
+      (ap (λ (x : ℕ). fitting_result room (record { steps = x; result = T.subject.term })) z)
     where
       unmapped : (v : Option Term) → map size v ≡ none → v ≡ none
       unmapped none e = refl
       unmapped (some u) e = absurd (clash (cc))
-  last_turn (Refused m p) k e room t h = stop (fitting-result room) (by_turn t h (not-mapped (map size) turn-of (sym k.answer)))
+  last_turn (Refused m p) k e room t h = stop (fitting_result room) (by_turn t h (not_mapped (map size) turn_of (sym k.answer)))
 
 -- ---- the loop
 
 -- both lists have just as many words as a term may have, and the output is as it was
 pub record Looping (start out : List ℕ) (budget : ℕ) (one other output : List ℕ) (n left : ℕ) : Type 0 where
   pub turn : StepTurn start budget one n left
-  pub just : length one ≡ most-words
-  pub just-other : length other ≡ most-words
-  pub same-output : output ≡ out
+  pub just : length one ≡ most_words
+  pub just_other : length other ≡ most_words
+  pub same_output : output ≡ out
 
-pub turnable : {start : List ℕ} {budget : ℕ} {ws : List ℕ} {n left room : ℕ} → StepTurn start budget ws n left → room ≡ most-words → Turnable ws n room
+pub turnable : {start : List ℕ} {budget : ℕ} {ws : List ℕ} {n left room : ℕ} → StepTurn start budget ws n left → room ≡ most_words → Turnable ws n room
 turnable T e =
     let s = T.subject in
-    record { term = s.term; here = s.here; count = s.count; short = s.short; plain = λ u i l. step-has-words s u i l; just = e }
+    record { term = s.term; here = s.here; count = s.count; short = s.short; plain = λ u i l. step_has_words s u i l; just = e }
 
 -- the words of the term are within the list
-pub term-within : {start : List ℕ} {budget : ℕ} {ws : List ℕ} {n left : ℕ} → StepTurn start budget ws n left → n ≤ length ws
-term-within T = let l = at-end T.subject.here in omega (arith, T.subject.count)
+pub term_within : {start : List ℕ} {budget : ℕ} {ws : List ℕ} {n left : ℕ} → StepTurn start budget ws n left → n ≤ length ws
+term_within T = let l = at_end T.subject.here in omega (arith, T.subject.count)
 
 -- what is answered behind the last turn is the answer
-pub last-answer : {start : List ℕ} {budget : ℕ} {ws : List ℕ} {n left : ℕ} (T : StepTurn start budget ws n left) (r : Turn) {mid : List ℕ} →
-    TurnedTo (turned left (next-step T.subject.term)) mid r → OneOf (1 ∷ 2 ∷ []) (tag_of the_type r) → {out output new : List ℕ} {a : Simplification} →
+pub last_answer : {start : List ℕ} {budget : ℕ} {ws : List ℕ} {n left : ℕ} (T : StepTurn start budget ws n left) (r : Turn) {mid : List ℕ} →
+    TurnedTo (turned left (next_step T.subject.term)) mid r → OneOf (1 ∷ 2 ∷ []) (tag_of the_type r) → {out output new : List ℕ} {a : Simplification} →
     output ≡ out → ((t : Term) → At ws 0 t → n ≡ size t → SimplifiedAs (at_last r (budget - left) t (length output)) output new a) →
-    (t : Term) → At start 0 t → SimplifiedAs (simplify-into budget (length out) t) out new a
-last-answer T r k e {out} {new = new} {a} q f t h =
+    (t : Term) → At start 0 t → SimplifiedAs (simplify_into budget (length out) t) out new a
+last_answer T r k e {out} {new = new} {a} q f t h =
     let s = T.subject in
     subst (λ o. SimplifiedAs o out new a) (sym (last_turn T r k e (length out) t h)) (rw q at (f s.term s.here s.count))

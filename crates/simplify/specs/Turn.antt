@@ -1,14 +1,14 @@
 -- One turn: the first step of a term, within the budget and the limits.
 use Rattle.std.specs.Prelude.{ℕ, ◌≤◌, ◌≡◌, List, ltb}
 use Rattle.std.proofs.Math.Option.{Option, some, none, map}
-use Rattle.logic.specs.Limits.{most-words}
-use Rattle.logic.specs.Refusals.{step-remains}
+use Rattle.logic.specs.Limits.{most_words}
+use Rattle.logic.specs.Refusals.{step_remains}
 use Rattle.logic.specs.Result.{Result, ok, refused, ◌>>=◌, ◌>>◌, require}
 use Rattle.logic.specs.Term.{Term, size}
 use Rattle.logic.specs.Reading.{Plain}
 use Rattle.words.specs.Place.{At}
-use Rattle.reduction.specs.Steps.{next-step}
-use Rattle.reduction.specs.Simplify.{in-limits}
+use Rattle.reduction.specs.Steps.{next_step}
+use Rattle.reduction.specs.Simplify.{in_limits}
 use Rattle.simplify.specs.declared.reduce.Turn.{Turn}
 use Rattle.simplify.specs.declared.reduce.Turn.TheVariants.{Stepped, Settled, Refused}
 
@@ -18,25 +18,25 @@ pub record Turnable (from : List ℕ) (n room : ℕ) : Type 0 where
   pub term : Term
   pub here : At from 0 term
   pub count : n ≡ size term
-  pub short : size term ≤ most-words
-  pub plain : (u : Term) → next-step term ≡ some u → size u ≤ most-words → Plain u
-  pub just : room ≡ most-words
+  pub short : size term ≤ most_words
+  pub plain : (u : Term) → next_step term ≡ some u → size u ≤ most_words → Plain u
+  pub just : room ≡ most_words
 
 -- where `left` steps may still be taken: nothing if no step is left, and else its result, or the refusal
 abbrev pub turned : (left : ℕ) → Option Term → Result (Option Term)
 turned left none = ok none
 turned left (some u) = do
-  require (ltb 0 left) step-remains 0
-  in-limits u
+  require (ltb 0 left) step_remains 0
+  in_limits u
   ok (some u)
 
 -- number, place and value of each case: the words of the result, if a step was left
-abbrev pub turn-answer : Turn → Result (Option ℕ)
-turn-answer (Stepped n) = ok (some n)
-turn-answer Settled = ok none
-turn-answer (Refused m p) = refused m p
+abbrev pub turn_answer : Turn → Result (Option ℕ)
+turn_answer (Stepped n) = ok (some n)
+turn_answer Settled = ok none
+turn_answer (Refused m p) = refused m p
 
 -- the answer, and the result's words in front
 pub record TurnedTo (o : Result (Option Term)) (new : List ℕ) (r : Turn) : Type 0 where
-  pub answer : turn-answer r ≡ (o >>= λ q. ok (map size q))
+  pub answer : turn_answer r ≡ (o >>= λ q. ok (map size q))
   pub front : (u : Term) → o ≡ ok (some u) → At new 0 u

@@ -1,8 +1,10 @@
 // Simplify: a term with parts that are not needed removed.
+#![tactic(auto)]
+
 pub mod reduce;
 
 ghost use Rattle.std.specs.Prelude.{length};
-ghost use Rattle.reduction.specs.Call.{simplify-call};
+ghost use Rattle.reduction.specs.Call.{simplify_call};
 ghost use Rattle.shared_tests.specs.Shared.{lent_of};
 ghost use Rattle.simplify.specs.Answers.{SimplifiedAs};
 
@@ -24,7 +26,7 @@ pub fn simplify(
     output: &mut [u32],
     ws: &mut [u32],
 ) -> Simplification
-    ensures { SimplifiedAs (simplify-call (lent_of sig.now n ws.old) register.now day term.now budget
+    ensures { SimplifiedAs (simplify_call (lent_of sig.now n ws.old) register.now day term.now budget
         (length output.old)) output.old output.new result }
 {
     let judged = judge(sig, n, register, day, term, ws);

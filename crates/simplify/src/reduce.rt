@@ -2,8 +2,8 @@
 ghost use Rattle.std.specs.Prelude.{◌≡◌, ◌≤◌, length};
 ghost use Rattle.logic.specs.Term.{Term, size};
 ghost use Rattle.words.specs.Place.{At};
-ghost use Rattle.reduction.specs.Steps.{next-step};
-ghost use Rattle.reduction.specs.Call.{simplify-into};
+ghost use Rattle.reduction.specs.Steps.{next_step};
+ghost use Rattle.reduction.specs.Call.{simplify_into};
 ghost use Rattle.simplify.specs.Turn.{Turnable, turned, TurnedTo};
 ghost use Rattle.simplify.specs.Answers.{at_last, Reducible, SimplifiedAs};
 
@@ -33,7 +33,7 @@ pub enum Simplification {
 // result is written to the front of `into`, which has as many words as a term may have.
 fn take_step(from: &[u32], n: usize, left: usize, into: &mut [u32]) -> Turn
     requires { Turnable from.now n (length into.old) }
-    ensures { (t : Term) → At from.now 0 t → TurnedTo (turned left (next-step t)) into.new result }
+    ensures { (t : Term) → At from.now 0 t → TurnedTo (turned left (next_step t)) into.new result }
 {
     let redex = first_step(from, 0, into);
     let Redex::Place(at) = redex else {
@@ -93,7 +93,7 @@ pub fn reduce(
 ) -> Simplification
     requires { Reducible one.old len (length one.old) (length other.old) }
     ensures { (t : Term) → At one.old 0 t
-        → SimplifiedAs (simplify-into budget (length output.old) t) output.old output.new result }
+        → SimplifiedAs (simplify_into budget (length output.old) t) output.old output.new result }
 {
     let mut n = len;
     let mut left = budget;

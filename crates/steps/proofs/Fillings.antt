@@ -8,51 +8,51 @@ use mathlib.Core.Option.{Option, some, none, map}
 use lib.Dec.{eqb}
 use lib.ListN.{get_or}
 use borrow.Author.Tests.{eqb-true, eqb-false}
-use Rattle.logic.specs.Term.{Op, saysO, piO, lamO, appO, retO, bindO, Term, node, Lam, App, Ret, Bind, op-word, size}
+use Rattle.logic.specs.Term.{Op, saysO, piO, lamO, appO, retO, bindO, Term, node, Lam, App, Ret, Bind, op_word, size}
 use Rattle.logic.specs.Move.{lower, fill, occurs}
 use Rattle.logic.specs.Infer.{Parts, parts}
 use Rattle.logic.specs.Reading.{or_else}
 use Rattle.logic.proofs.Basics.{clash, some_inj}
-use Rattle.logic.proofs.Conditions.{parts-some}
-use Rattle.logic.proofs.Free.{fill-lower}
+use Rattle.logic.proofs.Conditions.{parts_some}
+use Rattle.logic.proofs.Free.{fill_lower}
 use Rattle.words.specs.Place.{At, Stands}
 use Rattle.words.proofs.Places.{at_head, at_left, at_right}
 use Rattle.reduction.specs.Steps.{contracted}
 use Rattle.steps.specs.Step.{FillingOf}
-use Rattle.steps.proofs.Heads.{op-case, EndsAt, place-is-at, second-child-at}
+use Rattle.steps.proofs.Heads.{op_case, EndsAt, place_is_at, second_child_at}
 
 -- ---- which rule fits
 
 pub data FittingRule : Op → Term → Term → Term → Type 0 where
-  app-lam : {d x e : Term} → FittingRule appO (Lam d x) e (fill x e)
-  bind-of-ret : {p e x : Term} → FittingRule bindO (Ret p e) x (fill x e)
-  bind-not-used : {e x : Term} → parts retO e ≡ none → occurs 0 x ≡ 0 → FittingRule bindO e x (lower x)
+  app_lam : {d x e : Term} → FittingRule appO (Lam d x) e (fill x e)
+  bind_of_ret : {p e x : Term} → FittingRule bindO (Ret p e) x (fill x e)
+  bind_not_used : {e x : Term} → parts retO e ≡ none → occurs 0 x ≡ 0 → FittingRule bindO e x (lower x)
 
-app-rule : (f e u : Term) (p : Option Parts) → parts lamO f ≡ p → map (λ p. fill p.right e) p ≡ some u → FittingRule appO f e u
-app-rule f e u none m i = absurd (clash (cc))
-app-rule f e u (some p) m i = subst (FittingRule appO f e) (some_inj i)
-    (subst (λ f. FittingRule appO f e (fill p.right e)) (sym (parts-some lamO f m)) app-lam)
+app_rule : (f e u : Term) (p : Option Parts) → parts lamO f ≡ p → map (λ p. fill p.right e) p ≡ some u → FittingRule appO f e u
+app_rule f e u none m i = absurd (clash (cc))
+app_rule f e u (some p) m i = subst (FittingRule appO f e) (some_inj i)
+    (subst (λ f. FittingRule appO f e (fill p.right e)) (sym (parts_some lamO f m)) app_lam)
 
-bind-rule : (e x u : Term) (p : Option Parts) → parts retO e ≡ p → (z : Bool) → eqb (occurs 0 x) 0 ≡ z →
+bind_rule : (e x u : Term) (p : Option Parts) → parts retO e ≡ p → (z : Bool) → eqb (occurs 0 x) 0 ≡ z →
     or_else (map (λ p. fill x p.right) p) (cond z (some (lower x)) none) ≡ some u → FittingRule bindO e x u
-bind-rule e x u (some p) m z o i = subst (FittingRule bindO e x) (some_inj i)
-    (subst (λ e. FittingRule bindO e x (fill x p.right)) (sym (parts-some retO e m)) bind-of-ret)
-bind-rule e x u none m true o i = subst (FittingRule bindO e x) (some_inj i) (bind-not-used m (eqb-true _ 0 o))
-bind-rule e x u none m false o i = absurd (clash (cc))
+bind_rule e x u (some p) m z o i = subst (FittingRule bindO e x) (some_inj i)
+    (subst (λ e. FittingRule bindO e x (fill x p.right)) (sym (parts_some retO e m)) bind_of_ret)
+bind_rule e x u none m true o i = subst (FittingRule bindO e x) (some_inj i) (bind_not_used m (eqb-true _ 0 o))
+bind_rule e x u none m false o i = absurd (clash (cc))
 
-fitting-rule : (o : Op) (a b u : Term) → contracted o a b ≡ some u → FittingRule o a b u
-fitting-rule saysO a b u e = absurd (clash (cc))
-fitting-rule piO a b u e = absurd (clash (cc))
-fitting-rule lamO a b u e = absurd (clash (cc))
-fitting-rule appO a b u e = app-rule a b u (parts lamO a) refl e
-fitting-rule retO a b u e = absurd (clash (cc))
-fitting-rule bindO a b u e = bind-rule a b u (parts retO a) refl (eqb (occurs 0 b) 0) refl e
+fitting_rule : (o : Op) (a b u : Term) → contracted o a b ≡ some u → FittingRule o a b u
+fitting_rule saysO a b u e = absurd (clash (cc))
+fitting_rule piO a b u e = absurd (clash (cc))
+fitting_rule lamO a b u e = absurd (clash (cc))
+fitting_rule appO a b u e = app_rule a b u (parts lamO a) refl e
+fitting_rule retO a b u e = absurd (clash (cc))
+fitting_rule bindO a b u e = bind_rule a b u (parts retO a) refl (eqb (occurs 0 b) 0) refl e
 
 -- ---- places
 
 -- the first child of a node's first child stands behind their two words
-pub inner-at : {ws : List ℕ} {at : ℕ} {o o' : Op} {a b x : Term} → At ws at (node o (node o' a b) x) → At ws (at + 2) a
-inner-at h = place-is-at _ (omega arith) (at_left (at_left h))
+pub inner_at : {ws : List ℕ} {at : ℕ} {o o' : Op} {a b x : Term} → At ws at (node o (node o' a b) x) → At ws (at + 2) a
+inner_at h = place_is_at _ (omega arith) (at_left (at_left h))
 
 -- ---- an App, which is one of a Lam
 
@@ -65,35 +65,35 @@ pub record AppLam (ws : List ℕ) (at : ℕ) (t u : Term) : Type 0 where
   pub filled : fill x e ≡ u
 
 module _ {ws : List ℕ} {at : ℕ} where
-  pub app-parts : (o : Op) (a b u : Term) → At ws at (node o a b) → contracted o a b ≡ some u → get_or ws at 0 ≡ op-word appO → AppLam ws at (node o a b) u
-  app-parts o a b u h c e = go h (fitting-rule o a b u c)
+  pub app_parts : (o : Op) (a b u : Term) → At ws at (node o a b) → contracted o a b ≡ some u → get_or ws at 0 ≡ op_word appO → AppLam ws at (node o a b) u
+  app_parts o a b u h c e = go h (fitting_rule o a b u c)
     where
       go : {o : Op} {a b u : Term} → At ws at (node o a b) → FittingRule o a b u → AppLam ws at (node o a b) u
-      go h (app-lam {d} {x} {e = y}) = record { d = d; x = x; e = y; here = h; whole = refl; filled = refl }
-      go h bind-of-ret = let i = at_head h in absurd (omega arith)
-      go h (bind-not-used m z) = let i = at_head h in absurd (omega arith)
+      go h (app_lam {d} {x} {e = y}) = record { d = d; x = x; e = y; here = h; whole = refl; filled = refl }
+      go h bind_of_ret = let i = at_head h in absurd (omega arith)
+      go h (bind_not_used m z) = let i = at_head h in absurd (omega arith)
 
   module _ {t u : Term} (r : AppLam ws at t u) {body : ℕ} (k : EndsAt ws (at + 2) body) where
-    pub lam-body-at : At ws body r.x
-    lam-body-at = place-is-at _ (let i = k r.d (inner-at r.here) in omega arith) (at_right (at_left r.here))
+    pub lam_body_at : At ws body r.x
+    lam_body_at = place_is_at _ (let i = k r.d (inner_at r.here) in omega arith) (at_right (at_left r.here))
 
-    pub argument-at : {from : ℕ} → EndsAt ws body from → At ws from r.e
+    pub argument_at : {from : ℕ} → EndsAt ws body from → At ws from r.e
     unfolding size
-    argument-at l = place-is-at _ (let i = k r.d (inner-at r.here) in let j = l r.x lam-body-at in omega arith) (at_right r.here)
+    argument_at l = place_is_at _ (let i = k r.d (inner_at r.here) in let j = l r.x lam_body_at in omega arith) (at_right r.here)
 
-    pub app-filling : {from end : ℕ} → EndsAt ws body from → EndsAt ws from end →
+    pub app_filling : {from end : ℕ} → EndsAt ws body from → EndsAt ws from end →
         FillingOf ws at t u (record { body = body; from = from; upto = end; end = end })
     unfolding size
-    app-filling l m =
-        let i = k r.d (inner-at r.here) in
-        let j = l r.x lam-body-at in
-        let n = m r.e (argument-at l) in
+    app_filling l m =
+        let i = k r.d (inner_at r.here) in
+        let j = l r.x lam_body_at in
+        let n = m r.e (argument_at l) in
         rw r.whole (record {
           body = r.x;
           filler = r.e;
-          body_at = lam-body-at;
-          filler-at = argument-at l;
-          filler-end = n;
+          body_at = lam_body_at;
+          filler_at = argument_at l;
+          filler_end = n;
           smaller = omega arith;
           end = omega arith;
           filled = r.filled;
@@ -102,42 +102,42 @@ module _ {ws : List ℕ} {at : ℕ} where
 -- ---- a Bind, of a Ret or with a variable that is unused
 
 -- the body is filled with f, which ends where the body begins
-bind-filling : {ws : List ℕ} {at body from end : ℕ} {e x u f : Term} → At ws at (Bind e x) → EndsAt ws (at + 1) body → EndsAt ws body end → At ws from f →
+bind_filling : {ws : List ℕ} {at body from end : ℕ} {e x u f : Term} → At ws at (Bind e x) → EndsAt ws (at + 1) body → EndsAt ws body end → At ws from f →
     body ≡ from + size f → size f ≤ size e → fill x f ≡ u → FillingOf ws at (Bind e x) u (record { body = body; from = from; upto = body; end = end })
 unfolding size
-bind-filling {e = e} {x} {f = f} h k l g b z q =
+bind_filling {e = e} {x} {f = f} h k l g b z q =
     let i = k e (at_left h) in
-    let j = l x (second-child-at h k) in
-    record { body = x; filler = f; body_at = second-child-at h k; filler-at = g; filler-end = b; smaller = omega arith; end = omega arith; filled = q }
+    let j = l x (second_child_at h k) in
+    record { body = x; filler = f; body_at = second_child_at h k; filler_at = g; filler_end = b; smaller = omega arith; end = omega arith; filled = q }
 
-module _ {ws : List ℕ} {at body end : ℕ} (n : get_or ws at 0 ≡ op-word appO → ⊥) (k : EndsAt ws (at + 1) body) (l : EndsAt ws body end) where
-  pub ret-filling : {from : ℕ} → eqb (get_or ws (at + 1) 0) (op-word retO) ≡ true → EndsAt ws (at + 2) from → (o : Op) (a b u : Term) → At ws at (node o a b) →
+module _ {ws : List ℕ} {at body end : ℕ} (n : get_or ws at 0 ≡ op_word appO → ⊥) (k : EndsAt ws (at + 1) body) (l : EndsAt ws body end) where
+  pub ret_filling : {from : ℕ} → eqb (get_or ws (at + 1) 0) (op_word retO) ≡ true → EndsAt ws (at + 2) from → (o : Op) (a b u : Term) → At ws at (node o a b) →
       contracted o a b ≡ some u → FillingOf ws at (node o a b) u (record { body = body; from = from; upto = body; end = end })
   unfolding size
-  ret-filling {from} e m o a b u h c = go h (fitting-rule o a b u c)
+  ret_filling {from} e m o a b u h c = go h (fitting_rule o a b u c)
     where
       go : {o : Op} {a b u : Term} → At ws at (node o a b) → FittingRule o a b u →
           FillingOf ws at (node o a b) u (record { body = body; from = from; upto = body; end = end })
-      go h app-lam = absurd (n (at_head h))
-      go h (bind-of-ret {p} {e = y}) =
-          let i = m p (inner-at h) in
+      go h app_lam = absurd (n (at_head h))
+      go h (bind_of_ret {p} {e = y}) =
+          let i = m p (inner_at h) in
           let j = k (Ret p y) (at_left h) in
-          bind-filling h k l (place-is-at from (omega arith) (at_right (at_left h))) (omega arith) (omega arith) refl
-      go h (bind-not-used {e = y} {x} m z) =
-          absurd (op-case (λ t. parts retO t ≡ none → ⊥) retO (eqb-true _ _ e) (λ a b i j. clash (cc)) y (at_left h) m)
+          bind_filling h k l (place_is_at from (omega arith) (at_right (at_left h))) (omega arith) (omega arith) refl
+      go h (bind_not_used {e = y} {x} m z) =
+          absurd (op_case (λ t. parts retO t ≡ none → ⊥) retO (eqb-true _ _ e) (λ a b i j. clash (cc)) y (at_left h) m)
 
-  pub unused-filling : eqb (get_or ws (at + 1) 0) (op-word retO) ≡ false → (o : Op) (a b u : Term) → At ws at (node o a b) →
+  pub unused_filling : eqb (get_or ws (at + 1) 0) (op_word retO) ≡ false → (o : Op) (a b u : Term) → At ws at (node o a b) →
       contracted o a b ≡ some u → FillingOf ws at (node o a b) u (record { body = body; from = at + 1; upto = body; end = end })
-  unused-filling e o a b u h c = go h (fitting-rule o a b u c)
+  unused_filling e o a b u h c = go h (fitting_rule o a b u c)
     where
       go : {o : Op} {a b u : Term} → At ws at (node o a b) → FittingRule o a b u →
           FillingOf ws at (node o a b) u (record { body = body; from = at + 1; upto = body; end = end })
-      go h app-lam = absurd (n (at_head h))
-      go h bind-of-ret = absurd (eqb-false _ _ e (at_head (at_left h)))
-      go h (bind-not-used {e = y} {x} m z) = bind-filling h k l (at_left h) (k y (at_left h)) (omega arith) (fill-lower 0 y x z)
+      go h app_lam = absurd (n (at_head h))
+      go h bind_of_ret = absurd (eqb-false _ _ e (at_head (at_left h)))
+      go h (bind_not_used {e = y} {x} m z) = bind_filling h k l (at_left h) (k y (at_left h)) (omega arith) (fill_lower 0 y x z)
 
 -- the principal of a Ret
-pub principal-stands : {ws : List ℕ} {at : ℕ} {o : Op} {a b : Term} → At ws at (node o a b) → eqb (get_or ws (at + 1) 0) (op-word retO) ≡ true →
+pub principal_stands : {ws : List ℕ} {at : ℕ} {o : Op} {a b : Term} → At ws at (node o a b) → eqb (get_or ws (at + 1) 0) (op_word retO) ≡ true →
     Stands ws (at + 2)
-principal-stands {ws} {at} {a = a} h e = op-case (λ t. Stands ws (at + 2)) retO (eqb-true _ _ e)
-    (λ p y i. record { term = p; here = place-is-at _ (omega arith) (at_left i) }) a (at_left h)
+principal_stands {ws} {at} {a = a} h e = op_case (λ t. Stands ws (at + 2)) retO (eqb-true _ _ e)
+    (λ p y i. record { term = p; here = place_is_at _ (omega arith) (at_left i) }) a (at_left h)

@@ -5,7 +5,7 @@ use Rattle.logic.specs.Limits.{payloads}
 use Rattle.logic.specs.Term.{Term, atom, var, sign, node, size}
 use Rattle.logic.specs.Reading.{or_else}
 use Rattle.words.specs.Place.{At}
-use Rattle.reduction.specs.Steps.{contracted, steps_first, steps-second}
+use Rattle.reduction.specs.Steps.{contracted, steps_first, steps_second}
 use Rattle.steps.specs.declared.redex.Redex.{Redex}
 use Rattle.steps.specs.declared.redex.Redex.TheVariants.{Place, Nowhere}
 
@@ -16,16 +16,16 @@ pub record TermWithRoom (ws : List ℕ) (at len : ℕ) : Type 0 where
   pub few : size term ≤ payloads
   pub room : size term ≤ len
 
--- the place of the first step of a term that begins at the place `at`: where `next-step` of `reduction` takes it
-unfoldable pub first-place : ℕ → Term → Option ℕ
-first-place at (atom a) = none
-first-place at (var n) = none
-first-place at (sign n q) = none
-first-place at (node o a b) =
-    or_else (map (λ u. at) (contracted o a b)) (or_else (cond (steps_first o) (first-place (at + 1) a) none)
-    (cond (steps-second o) (first-place (at + 1 + size a) b) none))
+-- the place of the first step of a term that begins at the place `at`: where `next_step` of `reduction` takes it
+unfoldable pub first_place : ℕ → Term → Option ℕ
+first_place at (atom a) = none
+first_place at (var n) = none
+first_place at (sign n q) = none
+first_place at (node o a b) =
+    or_else (map (λ u. at) (contracted o a b)) (or_else (cond (steps_first o) (first_place (at + 1) a) none)
+    (cond (steps_second o) (first_place (at + 1 + size a) b) none))
 
 -- the values of each case
-abbrev pub redex-answer : Redex → Option ℕ
-redex-answer (Place p) = some p
-redex-answer Nowhere = none
+abbrev pub redex_answer : Redex → Option ℕ
+redex_answer (Place p) = some p
+redex_answer Nowhere = none

@@ -6,7 +6,7 @@ use Rattle.logic.specs.Term.{Op, Term, node, encode, size}
 use Rattle.logic.specs.Move.{fill}
 use Rattle.words.specs.Place.{At, written_at}
 use Rattle.reduction.specs.Steps.{contracted}
-use Rattle.steps.specs.Redex.{first-place}
+use Rattle.steps.specs.Redex.{first_place}
 use Rattle.steps.specs.declared.step.Filling.{Filling}
 use Rattle.steps.specs.declared.step.Stepped.{Stepped}
 use Rattle.steps.specs.declared.step.Stepped.TheVariants.{Done, Over}
@@ -25,8 +25,8 @@ pub record FillingOf (ws : List ℕ) (at : ℕ) (t u : Term) (r : Filling) : Typ
   pub body : Term
   pub filler : Term
   pub body_at : At ws r.body body
-  pub filler-at : At ws r.from filler
-  pub filler-end : r.upto ≡ r.from + size filler
+  pub filler_at : At ws r.from filler
+  pub filler_end : r.upto ≡ r.from + size filler
   pub smaller : size body + size filler < size t
   pub end : r.end ≡ at + size t
   pub filled : fill body filler ≡ u
@@ -37,16 +37,16 @@ pub record Steppable (ws : List ℕ) (n at room : ℕ) : Type 0 where
   pub term : Term
   pub here : At ws 0 term
   pub count : n ≡ size term
-  pub taken : first-place 0 term ≡ some at
+  pub taken : first_place 0 term ≡ some at
   pub few : size term ≤ payloads
   pub fits : size term ≤ room
 
 -- the values of each case: how many words the result has
-abbrev pub stepped-answer : Stepped → Option ℕ
-stepped-answer (Done n) = some n
-stepped-answer Over = none
+abbrev pub stepped_answer : Stepped → Option ℕ
+stepped_answer (Done n) = some n
+stepped_answer Over = none
 
 -- the words of u are written at the front, if there is room
 pub record SteppedTo (u : Term) (old new : List ℕ) (r : Stepped) : Type 0 where
-  pub answer : stepped-answer r ≡ cond (leb (size u) (length old)) (some (size u)) none
+  pub answer : stepped_answer r ≡ cond (leb (size u) (length old)) (some (size u)) none
   pub words : size u ≤ length old → new ≡ written_at old 0 (encode u)

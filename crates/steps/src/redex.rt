@@ -3,7 +3,7 @@ ghost use Rattle.std.specs.Prelude.{◌≡◌, eqb, length};
 ghost use Rattle.logic.specs.Term.{Term};
 ghost use Rattle.logic.specs.Move.{occurs};
 ghost use Rattle.words.specs.Place.{At};
-ghost use Rattle.steps.specs.Redex.{TermWithRoom, first-place, redex-answer};
+ghost use Rattle.steps.specs.Redex.{TermWithRoom, first_place, redex_answer};
 
 use logic::word::{APP, BIND, LAM, RET};
 use moves::shift::shift_into;
@@ -33,7 +33,7 @@ fn unused(words: &[u32], at: usize, scratch: &mut [u32]) -> bool
 // `scratch` holds afterwards is free.
 pub fn first_step(words: &[u32], at: usize, scratch: &mut [u32]) -> Redex
     requires { TermWithRoom words.now at (length scratch.old) }
-    ensures { (t : Term) → At words.now at t → redex-answer result ≡ first-place at t }
+    ensures { (t : Term) → At words.now at t → redex_answer result ≡ first_place at t }
 {
     let word = words[at];
     let app = word == APP;

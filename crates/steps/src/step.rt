@@ -3,7 +3,7 @@ ghost use Rattle.std.specs.Prelude.{◌≡◌, length};
 ghost use Rattle.std.proofs.Math.Option.{some};
 ghost use Rattle.logic.specs.Term.{Op, Term, node};
 ghost use Rattle.words.specs.Place.{At};
-ghost use Rattle.reduction.specs.Steps.{contracted, next-step};
+ghost use Rattle.reduction.specs.Steps.{contracted, next_step};
 ghost use Rattle.steps.specs.Step.{RedexAt, FillingOf, Steppable, SteppedTo};
 
 use logic::word::{APP, RET};
@@ -72,7 +72,7 @@ fn filling_at(words: &[u32], at: usize) -> Filling
 // out, as far as there is room.
 pub fn step_into(words: &[u32], n: usize, at: usize, out: &mut [u32]) -> Stepped
     requires { Steppable words.now n at (length out.old) }
-    ensures { (t u : Term) → At words.now 0 t → next-step t ≡ some u → SteppedTo u out.old out.new result }
+    ensures { (t u : Term) → At words.now 0 t → next_step t ≡ some u → SteppedTo u out.old out.new result }
 {
     let f = filling_at(words, at);
     let from = f.from;

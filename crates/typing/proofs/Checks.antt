@@ -4,34 +4,34 @@ use native.Mathlib.Omega.{arith}
 use mathlib.Core.Path.{◌≡◌, refl, sym, ap, subst, ◌∙◌}
 use mathlib.Core.List.{List, []}
 use lib.ListN.{length}
-use Rattle.logic.specs.Limits.{most-nesting}
-use Rattle.logic.specs.Result.{Result, ok, refused, without-value}
+use Rattle.logic.specs.Limits.{most_nesting}
+use Rattle.logic.specs.Result.{Result, ok, refused, without_value}
 use Rattle.logic.specs.Term.{Term, size}
-use Rattle.logic.specs.Scope.{no-binder}
+use Rattle.logic.specs.Scope.{no_binder}
 use Rattle.logic.specs.Infer.{infer}
 use Rattle.logic.specs.Check.{term_of, WordsOf}
 use Rattle.logic.proofs.Results.{bind_is}
 use Rattle.logic.proofs.Stopped.{stop}
-use Rattle.logic.proofs.Check.{term-of-right}
-use Rattle.words.specs.Verdict.{verdict-answer}
+use Rattle.logic.proofs.Check.{term_of_right}
+use Rattle.words.specs.Verdict.{verdict_answer}
 use Rattle.words.specs.declared.verdict.Verdict.{Verdict}
 use Rattle.words.specs.declared.verdict.Verdict.TheVariants.{Passed}
 use Rattle.words.proofs.Places.{is_at, size_is}
-use Rattle.words.proofs.Verdicts.{passed-told}
-use Rattle.rules.specs.Scope.{no-entries}
-use Rattle.rules.specs.Form.{type-and-end}
+use Rattle.words.proofs.Verdicts.{passed_told}
+use Rattle.rules.specs.Scope.{no_entries}
+use Rattle.rules.specs.Form.{type_and_end}
 use Rattle.typing.specs.Derive.{Derived, SubjectAt}
-use Rattle.typing.specs.Check.{ConstantsOf, typed-term, Judged}
+use Rattle.typing.specs.Check.{ConstantsOf, typed_term, Judged}
 use Rattle.rules.specs.declared.derivation.Derivation.{Derivation}
 use Rattle.rules.specs.declared.derivation.Derivation.TheVariants.{Refused}
 
-pub judged-refused : (o : Result Term) (end : ℕ) (new : List ℕ) (m p : ℕ) → o ≡ refused m p → Judged o end new (Refused m p)
-judged-refused o end new m p e = subst (λ (x : Result Term). Judged x end new (Refused m p)) (sym e) (record { answer = refl; front = tt })
+pub judged_refused : (o : Result Term) (end : ℕ) (new : List ℕ) (m p : ℕ) → o ≡ refused m p → Judged o end new (Refused m p)
+judged_refused o end new m p e = subst (λ (x : Result Term). Judged x end new (Refused m p)) (sym e) (record { answer = refl; front = tt })
 
 -- the tests before the derivation refuse
-pub refused-term : (Σ : List Term) (most deep : ℕ) (ws new : List ℕ) (m p : ℕ) → term_of most deep ws ≡ refused m p →
-    Judged (typed-term Σ most deep ws) (length ws) new (Refused m p)
-refused-term Σ most deep ws new m p e = judged-refused _ _ new m p (stop (λ t. infer Σ [] 0 t) e)
+pub refused_term : (Σ : List Term) (most deep : ℕ) (ws new : List ℕ) (m p : ℕ) → term_of most deep ws ≡ refused m p →
+    Judged (typed_term Σ most deep ws) (length ws) new (Refused m p)
+refused_term Σ most deep ws new m p e = judged_refused _ _ new m p (stop (λ t. infer Σ [] 0 t) e)
 
 -- the term that passed them
 pub record TermIn (most deep : ℕ) (ws : List ℕ) : Type 0 where
@@ -39,30 +39,30 @@ pub record TermIn (most deep : ℕ) (ws : List ℕ) : Type 0 where
   pub passed : term_of most deep ws ≡ ok term
   pub words : WordsOf most deep ws term
 
-pub term_in : (most deep : ℕ) (ws : List ℕ) (r : Verdict) → verdict-answer r ≡ without-value (term_of most deep ws) → r ≡ Passed → TermIn most deep ws
+pub term_in : (most deep : ℕ) (ws : List ℕ) (r : Verdict) → verdict_answer r ≡ without_value (term_of most deep ws) → r ≡ Passed → TermIn most deep ws
 term_in most deep ws r e f =
-    let (t, i) = passed-told (term_of most deep ws) r e f in
-    record { term = t; passed = i; words = (term-of-right most deep ws t).0 i }
+    let (t, i) = passed_told (term_of most deep ws) r e f in
+    record { term = t; passed = i; words = (term_of_right most deep ws t).0 i }
 
 -- with no binders, a term that is not too deep is ready
-pub ready-term : (sig table proof ws : List ℕ) (most deep : ℕ) (Σ : List Term) (t : Term) → ConstantsOf sig table Σ → WordsOf most deep proof t
-    → deep ≤ most-nesting → SubjectAt sig table proof ws 0 0 0 deep Σ [] t
-ready-term sig table proof ws most deep Σ t C w l = record {
+pub ready_term : (sig table proof ws : List ℕ) (most deep : ℕ) (Σ : List Term) (t : Term) → ConstantsOf sig table Σ → WordsOf most deep proof t
+    → deep ≤ most_nesting → SubjectAt sig table proof ws 0 0 0 deep Σ [] t
+ready_term sig table proof ws most deep Σ t C w l = record {
   declared = C.declared;
   signature = C.signature;
-  binders = no-entries;
-  context = no-binder;
+  binders = no_entries;
+  context = no_binder;
   here = is_at (record { plain = w.plain; words = w.words });
   deep = w.nested;
   few = omega arith;
 }
 
 -- the type of a term that passed is that of its derivation
-pub judged-term : (Σ : List Term) (most deep : ℕ) (ws old new : List ℕ) (T : TermIn most deep ws) (r : Derivation) →
-    Derived (infer Σ [] 0 T.term) (0 + size T.term) 0 old new r → Judged (typed-term Σ most deep ws) (length ws) new r
-judged-term Σ most deep ws old new T r d =
+pub judged_term : (Σ : List Term) (most deep : ℕ) (ws old new : List ℕ) (T : TermIn most deep ws) (r : Derivation) →
+    Derived (infer Σ [] 0 T.term) (0 + size T.term) 0 old new r → Judged (typed_term Σ most deep ws) (length ws) new r
+judged_term Σ most deep ws old new T r d =
     let w = T.words in
     let n : 0 + size T.term ≡ length ws = omega (arith, size_is ws T.term (record { plain = w.plain; words = w.words })) in
-    let e : typed-term Σ most deep ws ≡ infer Σ [] 0 T.term = bind_is (λ t. infer Σ [] 0 t) T.passed refl in
+    let e : typed_term Σ most deep ws ≡ infer Σ [] 0 T.term = bind_is (λ t. infer Σ [] 0 t) T.passed refl in
     subst (λ (x : Result Term). Judged x (length ws) new r) (sym e)
-    (record { answer = d.answer ∙ ap (type-and-end (infer Σ [] 0 T.term)) n; front = d.front })
+    (record { answer = d.answer ∙ ap (type_and_end (infer Σ [] 0 T.term)) n; front = d.front })

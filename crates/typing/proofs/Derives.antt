@@ -8,46 +8,46 @@ use mathlib.Core.Option.{Option, some, none}
 use lib.ListN.{length, take, drop, get_or, get_elem?, length-append}
 use lib.Seq.{take_at, drop_at, drop-drop, take-append-add, length-take-le}
 use lib.IntN.{pos}
-use Rattle.logic.specs.Limits.{most-words, most-type-words}
-use Rattle.logic.specs.Refusals.{unbound-variable}
+use Rattle.logic.specs.Limits.{most_words, most_type_words}
+use Rattle.logic.specs.Refusals.{unbound_variable}
 use Rattle.logic.specs.Result.{Result, ok, refused, ◌>>=◌, ◌>>◌, known}
-use Rattle.logic.specs.Kind.{kind-atom, kind-variable, kind-sign}
-use Rattle.logic.specs.Term.{Atom, Op, saysO, piO, lamO, appO, retO, bindO, Term, atom, var, sign, node, P, Says, Pi, payload-of, atom-word, op-word}
+use Rattle.logic.specs.Kind.{kind_atom, kind_variable, kind_sign}
+use Rattle.logic.specs.Term.{Atom, Op, saysO, piO, lamO, appO, retO, bindO, Term, atom, var, sign, node, P, Says, Pi, payload_of, atom_word, op_word}
 use Rattle.logic.specs.Term.{encode, size}
 use Rattle.logic.specs.Move.{raise, fill}
-use Rattle.logic.specs.Typing.{Has, of-prop}
-use Rattle.logic.specs.Scope.{Context, no-binder, binder}
+use Rattle.logic.specs.Typing.{Has, of_prop}
+use Rattle.logic.specs.Scope.{Context, no_binder, binder}
 use Rattle.logic.specs.Infer.{infer, measured, same, domain, Parts, parts}
 use Rattle.logic.specs.Reading.{PlainAtom, Plain, PlainType, depth}
-use Rattle.logic.proofs.Results.{not-ok, ok-inj, followed, pass, require-ok}
-use Rattle.logic.proofs.Stopped.{not-refused, stopped-then}
-use Rattle.logic.proofs.Words.{encode-size, plain-in-range, children-plain}
-use Rattle.logic.proofs.Range.{AllNamed, in-range-named, named-shift, plain-typed, inferred}
-use Rattle.logic.proofs.Substitution.{weaken-one}
-use Rattle.logic.proofs.Regularity.{said-types, stratify}
-use Rattle.logic.proofs.Conditions.{measured-small, parts-some, domain-ok}
-use Rattle.logic.proofs.Proposition.{same-yes}
+use Rattle.logic.proofs.Results.{not_ok, ok_inj, followed, pass, require_ok}
+use Rattle.logic.proofs.Stopped.{not_refused, stopped_then}
+use Rattle.logic.proofs.Words.{encode_size, plain_in_range, children_plain}
+use Rattle.logic.proofs.Range.{AllNamed, in_range_named, named_shift, plain_typed, inferred}
+use Rattle.logic.proofs.Substitution.{weaken_one}
+use Rattle.logic.proofs.Regularity.{said_types, stratify}
+use Rattle.logic.proofs.Conditions.{measured_small, parts_some, domain_ok}
+use Rattle.logic.proofs.Proposition.{same_yes}
 use Rattle.logic.proofs.Soundness.{sound}
 use Rattle.logic.proofs.Searches.{depth_pos}
 use Rattle.words.specs.Place.{At}
 use Rattle.words.specs.Typed.{TypeAt}
-use Rattle.words.proofs.Places.{at_head, at_sign, at_left, at_right, at-payload}
-use Rattle.logic.proofs.Shapes.{term-kind, op-low}
-use Rattle.moves.proofs.Shifts.{size-shift}
-use Rattle.rules.specs.Rule.{atom-type, variable-type, sign-type, first-child, second-child, ready, within, node-type}
-use Rattle.rules.specs.Scope.{tail, scope-words, entry-head, Binders, no-entries, in-proof, in-workspace, binder-entry, Declared}
-use Rattle.rules.specs.Form.{derivation-answer, Front, TypeFormed, front-words, level-words}
+use Rattle.words.proofs.Places.{at_head, at_sign, at_left, at_right, at_payload}
+use Rattle.logic.proofs.Shapes.{term_kind, op_low}
+use Rattle.moves.proofs.Shifts.{size_shift}
+use Rattle.rules.specs.Rule.{atom_type, variable_type, sign_type, first_child, second_child, ready, within, node_type}
+use Rattle.rules.specs.Scope.{tail, scope_words, entry_head, Binders, no_entries, in_proof, in_workspace, binder_entry, Declared}
+use Rattle.rules.specs.Form.{derivation_answer, Front, TypeFormed, front_words, level_words}
 use Rattle.typing.specs.Derive.{Derived, SubjectAt}
 use Rattle.rules.specs.Variable.{Raises}
 use Rattle.results.specs.Results.{Signs, First, Forms, Formable}
-use Rattle.rules.specs.Enter.{Enters, keep-of, entered-answer, EntryKept, Entering}
-use Rattle.rules.proofs.Fronts.{typed-by, refused-by}
+use Rattle.rules.specs.Enter.{Enters, keep_of, entered_answer, EntryKept, Entering}
+use Rattle.rules.proofs.Fronts.{typed_by, refused_by}
 use Rattle.rules.specs.declared.derivation.Derivation.{Derivation}
 use Rattle.rules.specs.declared.derivation.Derivation.TheVariants.{Typed, Refused}
 use Rattle.rules.specs.declared.enter.Entered.{Entered}
 use Rattle.rules.specs.declared.enter.Entered.TheVariants.{Fits, Refused as EnteredRefused}
-use Rattle.typing.proofs.Tails.{tail-kept, rest_of, whole_of, rest-tail, whole-tail, whole_length, whole_is}
-use Rattle.typing.proofs.Uniform.{node-rule, uniform}
+use Rattle.typing.proofs.Tails.{tail_kept, rest_of, whole_of, rest_tail, whole_tail, whole_length, whole_is}
+use Rattle.typing.proofs.Uniform.{node_rule, uniform}
 
 -- ---- what an answer tells
 
@@ -58,79 +58,79 @@ pub record Answered (o : Result Term) (end : ℕ) (new : List ℕ) (n e : ℕ) :
   pub ends : e ≡ end
   pub front : TypeAt new 0 type
 
-pub typed-is : (o : Result Term) (end used : ℕ) (old new : List ℕ) (r : Derivation) (n e : ℕ) → Derived o end used old new r → r ≡ Typed n e
+pub typed_is : (o : Result Term) (end used : ℕ) (old new : List ℕ) (r : Derivation) (n e : ℕ) → Derived o end used old new r → r ≡ Typed n e
     → Answered o end new n e
-typed-is o end used old new r n e d q =
-    typed-by o end d.answer n e q λ A i w l. record { type = A; is = i; words = w; ends = l; front = subst (λ (x : Result Term). Front x new) i d.front }
+typed_is o end used old new r n e d q =
+    typed_by o end d.answer n e q λ A i w l. record { type = A; is = i; words = w; ends = l; front = subst (λ (x : Result Term). Front x new) i d.front }
 
-pub refused-is : (o : Result Term) (end used : ℕ) (old new : List ℕ) (r : Derivation) (m p : ℕ) → Derived o end used old new r → r ≡ Refused m p
+pub refused_is : (o : Result Term) (end used : ℕ) (old new : List ℕ) (r : Derivation) (m p : ℕ) → Derived o end used old new r → r ≡ Refused m p
     → o ≡ refused m p
-refused-is o end used old new r m p d q = refused-by o end d.answer m p q
+refused_is o end used old new r m p d q = refused_by o end d.answer m p q
 
 -- a rule that wrote only the front left the words kept at the end
-pub from_front : (o : Result Term) (end used : ℕ) (old new : List ℕ) (r : Derivation) → length new ≡ length old → used + front-words ≤ length old
+pub from_front : (o : Result Term) (end used : ℕ) (old new : List ℕ) (r : Derivation) → length new ≡ length old → used + front_words ≤ length old
     → TypeFormed o end old new r → Derived o end used old new r
-from_front o end used old new r e l f = record { answer = f.answer; front = f.front; kept = tail-kept used front-words old new e f.rest (omega arith) }
+from_front o end used old new r e l f = record { answer = f.answer; front = f.front; kept = tail_kept used front_words old new e f.rest (omega arith) }
 
-pub refused-derived : (o : Result Term) (end used : ℕ) (old new : List ℕ) (r : Derivation) (m p : ℕ) → o ≡ refused m p → r ≡ Refused m p
+pub refused_derived : (o : Result Term) (end used : ℕ) (old new : List ℕ) (r : Derivation) (m p : ℕ) → o ≡ refused m p → r ≡ Refused m p
     → tail used new ≡ tail used old → Derived o end used old new r
-refused-derived o end used old new r m p e q k =
-    subst (λ (x : Result Term). Derived x end used old new r) (sym e) (record { answer = ap derivation-answer q; front = tt; kept = k })
+refused_derived o end used old new r m p e q k =
+    subst (λ (x : Result Term). Derived x end used old new r) (sym e) (record { answer = ap derivation_answer q; front = tt; kept = k })
 
 -- what stands behind an entry
-tail-behind : (used kept : ℕ) (x e y : List ℕ) → kept ≡ used + length e → kept ≤ length x → tail kept x ≡ e ++ y → tail used x ≡ y
-tail-behind used kept x e y k l h =
+tail_behind : (used kept : ℕ) (x e y : List ℕ) → kept ≡ used + length e → kept ≤ length x → tail kept x ≡ e ++ y → tail used x ≡ y
+tail_behind used kept x e y k l h =
     let q : length x - used ≡ length x - kept + length e = omega arith in
     ap (λ (i : ℕ). drop i x) q ∙ sym (drop-drop (length e) (length x - kept) x) ∙ ap (drop (length e)) h ∙ drop_at e y (length e) refl
 
 -- a type that stood at the front of a part stands behind what is before the part
-type-behind : (n : ℕ) (ws part : List ℕ) (A : Term) → n ≤ length ws → TypeAt part 0 A → TypeAt (whole_of n ws part) n A
-type-behind n ws part A l h = record {
+type_behind : (n : ℕ) (ws part : List ℕ) (A : Term) → n ≤ length ws → TypeAt part 0 A → TypeAt (whole_of n ws part) n A
+type_behind n ws part A l h = record {
   plain = h.plain;
   rest = h.rest;
   words = ap (drop n) (whole_is n ws part) ∙ drop_at (take n ws) part n (length-take-le n ws l) ∙ h.words;
 }
 
 -- and a type before it stays
-type-before : (n : ℕ) (ws part : List ℕ) (A : Term) → n ≡ size A → TypeAt ws 0 A → TypeAt (whole_of n ws part) 0 A
-type-before n ws part A e h = record {
+type_before : (n : ℕ) (ws part : List ℕ) (A : Term) → n ≡ size A → TypeAt ws 0 A → TypeAt (whole_of n ws part) 0 A
+type_before n ws part A e h = record {
   plain = h.plain;
   rest = part;
   words =
       whole_is n ws part ∙ ap (λ (x : List ℕ). x ++ part) (ap₂ (λ (i : ℕ) (x : List ℕ). take i x) e h.words
-      ∙ take_at (encode A) h.rest (size A) (encode-size A));
+      ∙ take_at (encode A) h.rest (size A) (encode_size A));
 }
 
 -- ---- the names in scope
 
-named-list : (Σ : List Term) → ((n : ℕ) (A : Term) → get_elem? Σ n ≡ some A → Plain A) → AllNamed Σ
-named-list [] f = tt
-named-list (A ∷ Σ) f = (in-range-named A (plain-in-range A (f 0 A refl)), named-list Σ (λ n B e. f (suc n) B e))
+named_list : (Σ : List Term) → ((n : ℕ) (A : Term) → get_elem? Σ n ≡ some A → Plain A) → AllNamed Σ
+named_list [] f = tt
+named_list (A ∷ Σ) f = (in_range_named A (plain_in_range A (f 0 A refl)), named_list Σ (λ n B e. f (suc n) B e))
 
-pub declared-named : (sig table : List ℕ) (Σ : List Term) → Declared sig table Σ → AllNamed Σ
-declared-named sig table Σ d = named-list Σ (λ n A e. (d.type n A e).plain)
+pub declared_named : (sig table : List ℕ) (Σ : List Term) → Declared sig table Σ → AllNamed Σ
+declared_named sig table Σ d = named_list Σ (λ n A e. (d.type n A e).plain)
 
-pub binders-named : {proof h : List ℕ} {Γ : List Term} → Binders proof h Γ → AllNamed Γ
-binders-named no-entries = tt
-binders-named (in-proof {A} a b) = (in-range-named A (plain-in-range A a.plain), binders-named b)
-binders-named (in-workspace {A} x p l b) = (in-range-named A (plain-in-range A p), binders-named b)
+pub binders_named : {proof h : List ℕ} {Γ : List Term} → Binders proof h Γ → AllNamed Γ
+binders_named no_entries = tt
+binders_named (in_proof {A} a b) = (in_range_named A (plain_in_range A a.plain), binders_named b)
+binders_named (in_workspace {A} x p l b) = (in_range_named A (plain_in_range A p), binders_named b)
 
 -- what the check gives for a term that is ready
-type-of : {sig table proof ws : List ℕ} {floor used at left : ℕ} {Σ Γ : List Term} {t A : Term} → SubjectAt sig table proof ws floor used at left Σ Γ t
-    → infer Σ Γ at t ≡ ok A → PlainType A × (size A ≤ most-type-words)
-type-of {sig} {table} {at} {Σ} {Γ} {t} r e =
-    inferred r.signature (declared-named sig table Σ r.declared) r.context (binders-named r.binders) (omega (arith, r.few)) t at r.here.plain e
+type_of : {sig table proof ws : List ℕ} {floor used at left : ℕ} {Σ Γ : List Term} {t A : Term} → SubjectAt sig table proof ws floor used at left Σ Γ t
+    → infer Σ Γ at t ≡ ok A → PlainType A × (size A ≤ most_type_words)
+type_of {sig} {table} {at} {Σ} {Γ} {t} r e =
+    inferred r.signature (declared_named sig table Σ r.declared) r.context (binders_named r.binders) (omega (arith, r.few)) t at r.here.plain e
 
 -- ---- a Sign
 
-pub sign-ready : {sig table proof ws : List ℕ} {floor used at left : ℕ} {Σ Γ : List Term} {n : ℕ} {q : Term}
+pub sign_ready : {sig table proof ws : List ℕ} {floor used at left : ℕ} {Σ Γ : List Term} {n : ℕ} {q : Term}
     → SubjectAt sig table proof ws floor used at left Σ Γ (sign n q) → SubjectAt sig table proof ws used used (at + 1) (left - 1) Σ [] q
 unfolding depth
-sign-ready {proof} {ws} {used} r = record {
+sign_ready {proof} {ws} {used} r = record {
   declared = r.declared;
   signature = r.signature;
-  binders = let e : used - used ≡ 0 = omega arith in subst (λ (i : ℕ). Binders proof (take i (tail used ws)) []) (sym e) no-entries;
-  context = no-binder;
+  binders = let e : used - used ≡ 0 = omega arith in subst (λ (i : ℕ). Binders proof (take i (tail used ws)) []) (sym e) no_entries;
+  context = no_binder;
   here = at_sign r.here;
   deep = omega (arith, r.deep);
   few = omega (arith, r.few);
@@ -143,25 +143,25 @@ pub record BetweenChildren (proof ws mid : List ℕ) (used at next n : ℕ) (Σ 
   pub type : Term
   pub is : infer Σ Γ (at + 1) a ≡ ok type
   pub plain : PlainType type
-  pub small : size type ≤ most-type-words
+  pub small : size type ≤ most_type_words
   pub enters : Enters proof mid at next n o a type
   pub kept : tail used mid ≡ tail used ws
 
 -- the test on it passed, and the second child's derivation is lent what is left
 pub record Inside (mid mid2 : List ℕ) (used at n keep kept : ℕ) (o : Op) (a A : Term) : Type 0 where
   pub passed : ready o at A ≡ ok tt
-  pub keep-is : keep ≡ keep-of o n
-  pub kept-is : kept ≡ used + length (binder-entry o at a A)
-  pub entered : tail kept mid2 ≡ binder-entry o at a A ++ tail used mid
+  pub keep_is : keep ≡ keep_of o n
+  pub kept_is : kept ≡ used + length (binder_entry o at a A)
+  pub entered : tail kept mid2 ≡ binder_entry o at a A ++ tail used mid
   pub front : TypeAt mid2 0 A
 
-pub inside-node : (o : Op) (at : ℕ) (a A : Term) (n used : ℕ) (mid mid2 : List ℕ) (r : Entered) (keep kept : ℕ) → Entering o at a A n used mid mid2 r
+pub inside_node : (o : Op) (at : ℕ) (a A : Term) (n used : ℕ) (mid mid2 : List ℕ) (r : Entered) (keep kept : ℕ) → Entering o at a A n used mid mid2 r
     → r ≡ Fits keep kept → Inside mid mid2 used at n keep kept o a A
-inside-node o at a A n used mid mid2 r keep kept e q = followed (ready o at A) _ (sym e.answer ∙ ap (entered-answer at) q) λ u i j.
-    let v : ◌≡◌ {A = ℕ × ℕ} (keep-of o n, used + length (binder-entry o at a A)) (keep, kept) = ok-inj j in
-    let k : kept ≡ used + length (binder-entry o at a A) = sym (ap (λ (x : ℕ × ℕ). x.1) v) in
+inside_node o at a A n used mid mid2 r keep kept e q = followed (ready o at A) _ (sym e.answer ∙ ap (entered_answer at) q) λ u i j.
+    let v : ◌≡◌ {A = ℕ × ℕ} (keep_of o n, used + length (binder_entry o at a A)) (keep, kept) = ok_inj j in
+    let k : kept ≡ used + length (binder_entry o at a A) = sym (ap (λ (x : ℕ × ℕ). x.1) v) in
     let w = subst (λ (x : Result (Unit {0})). EntryKept x o at a A used mid mid2) i e.kept in
-    record { passed = i; keep-is = sym (ap (λ (x : ℕ × ℕ). x.0) v); kept-is = k; entered = ap (λ (i : ℕ). tail i mid2) k ∙ w.0; front = w.1 }
+    record { passed = i; keep_is = sym (ap (λ (x : ℕ × ℕ). x.0) v); kept_is = k; entered = ap (λ (i : ℕ). tail i mid2) k ∙ w.0; front = w.1 }
 
 -- a test that fails is refused at the node, with its number
 record Failed (mid mid2 : List ℕ) (o : Op) (at : ℕ) (A : Term) (m : ℕ) : Type 0 where
@@ -170,85 +170,85 @@ record Failed (mid mid2 : List ℕ) (o : Op) (at : ℕ) (A : Term) (m : ℕ) : T
 
 failed : (o : Op) (at : ℕ) (a A : Term) (n used : ℕ) (mid mid2 : List ℕ) (r : Entered) (m : ℕ) → Entering o at a A n used mid mid2 r → r ≡ EnteredRefused m
     → Failed mid mid2 o at A m
-failed o at a A n used mid mid2 r m e q = stopped-then (ready o at A) _ (sym e.answer ∙ ap (entered-answer at) q)
+failed o at a A n used mid mid2 r m e q = stopped_then (ready o at A) _ (sym e.answer ∙ ap (entered_answer at) q)
     (λ i. record { fails = i; unchanged = subst (λ (x : Result (Unit {0})). EntryKept x o at a A used mid mid2) i e.kept })
-    λ u i j. absurd (not-refused j)
+    λ u i j. absurd (not_refused j)
 
 -- what the test says of the first child's type
 
-known_some : {o : Op} (A : Term) (m at : ℕ) → (known m at (parts o A) >> ok (tt {0})) ≡ ok tt → A ≡ node o (first-child A) (second-child A)
+known_some : {o : Op} (A : Term) (m at : ℕ) → (known m at (parts o A) >> ok (tt {0})) ≡ ok tt → A ≡ node o (first_child A) (second_child A)
 known_some {o} A m at e = go (parts o A) refl e
   where
-    go : (x : Option Parts) → parts o A ≡ x → (known m at x >> ok (tt {0})) ≡ ok tt → A ≡ node o (first-child A) (second-child A)
-    go none e q = absurd (not-ok q)
-    go (some p) e q = let h = parts-some o A e in h ∙ ap₂ (node o) (sym (ap first-child h)) (sym (ap second-child h))
+    go : (x : Option Parts) → parts o A ≡ x → (known m at x >> ok (tt {0})) ≡ ok tt → A ≡ node o (first_child A) (second_child A)
+    go none e q = absurd (not_ok q)
+    go (some p) e q = let h = parts_some o A e in h ∙ ap₂ (node o) (sym (ap first_child h)) (sym (ap second_child h))
 
-pub ready-pi : (at : ℕ) (A : Term) → ready appO at A ≡ ok tt → A ≡ Pi (first-child A) (second-child A)
+pub ready_pi : (at : ℕ) (A : Term) → ready appO at A ≡ ok tt → A ≡ Pi (first_child A) (second_child A)
 unfolding ready
-ready-pi at A e = known_some A _ at e
+ready_pi at A e = known_some A _ at e
 
-pub ready-says : (at : ℕ) (A : Term) → ready bindO at A ≡ ok tt → A ≡ Says (first-child A) (second-child A)
+pub ready_says : (at : ℕ) (A : Term) → ready bindO at A ≡ ok tt → A ≡ Says (first_child A) (second_child A)
 unfolding ready
-ready-says at A e = known_some A _ at e
+ready_says at A e = known_some A _ at e
 
 -- the words of an entry
-pub entry-short : (o : Op) (at : ℕ) (a A : Term) → size A ≤ most-type-words → ready o at A ≡ ok tt → length (binder-entry o at a A) ≤ level-words
+pub entry_short : (o : Op) (at : ℕ) (a A : Term) → size A ≤ most_type_words → ready o at A ≡ ok tt → length (binder_entry o at a A) ≤ level_words
 unfolding size
-entry-short saysO at a A s e = omega arith
-entry-short piO at a A s e = omega arith
-entry-short lamO at a A s e = omega arith
-entry-short appO at a A s e = omega arith
-entry-short retO at a A s e = omega arith
-entry-short bindO at a A s e =
-    let h : size A ≡ suc (size (first-child A) + size (second-child A)) = ap size (ready-says at A e) in
-    let l = length-append (encode (raise 1 (first-child A))) (encode (second-child A)) in
-    let x : length (encode (raise 1 (first-child A))) ≡ size (first-child A) = encode-size _ ∙ size-shift 0 _ (first-child A) in
-    let y = encode-size (second-child A) in
+entry_short saysO at a A s e = omega arith
+entry_short piO at a A s e = omega arith
+entry_short lamO at a A s e = omega arith
+entry_short appO at a A s e = omega arith
+entry_short retO at a A s e = omega arith
+entry_short bindO at a A s e =
+    let h : size A ≡ suc (size (first_child A) + size (second_child A)) = ap size (ready_says at A e) in
+    let l = length-append (encode (raise 1 (first_child A))) (encode (second_child A)) in
+    let x : length (encode (raise 1 (first_child A))) ≡ size (first_child A) = encode_size _ ∙ size_shift 0 _ (first_child A) in
+    let y = encode_size (second_child A) in
     omega arith
 
 -- the entry of a binder, before those of the others, is that of one binder more
-pub binders-more : {proof h : List ℕ} {Γ : List Term} (o : Op) (at : ℕ) (a A : Term) → At proof (at + 1) a → PlainType A → ready o at A ≡ ok tt
-    → Binders proof h Γ → Binders proof (binder-entry o at a A ++ h) (within o a A Γ)
+pub binders_more : {proof h : List ℕ} {Γ : List Term} (o : Op) (at : ℕ) (a A : Term) → At proof (at + 1) a → PlainType A → ready o at A ≡ ok tt
+    → Binders proof h Γ → Binders proof (binder_entry o at a A ++ h) (within o a A Γ)
 unfolding size
-binders-more saysO at a A i p e b = b
-binders-more piO at a A i p e b = in-proof i b
-binders-more lamO at a A i p e b = in-proof i b
-binders-more appO at a A i p e b = b
-binders-more retO at a A i p e b = b
-binders-more {proof} {h} {Γ} bindO at a A i p e b =
-    let says : A ≡ Says (first-child A) (second-child A) = ready-says at A e in
-    let q : Plain (first-child A) × Plain (second-child A) = children-plain (subst PlainType says p) in
-    let x : List ℕ = op-word saysO ∷ encode (raise 1 (first-child A)) in
-    let l : length (encode (raise 1 (first-child A))) ≡ size (first-child A) = encode-size _ ∙ size-shift 0 _ (first-child A) in
-    let s : size A ≡ suc (size (first-child A) + size (second-child A)) = ap size says in
-    let n : entry-head + (length x + size (second-child A)) ≡ entry-head + size A = omega arith in
-    subst (λ (w : List ℕ). Binders proof w (second-child A ∷ Γ))
-    (ap₂ (λ (k : ℕ) (w : List ℕ). k ∷ 0 ∷ size (second-child A) ∷ (op-word saysO ∷ w)) n
-    (sym (append_assoc (encode (raise 1 (first-child A))) (encode (second-child A)) h)))
-    (in-workspace {s = 0} x q.1 (omega arith) b)
+binders_more saysO at a A i p e b = b
+binders_more piO at a A i p e b = in_proof i b
+binders_more lamO at a A i p e b = in_proof i b
+binders_more appO at a A i p e b = b
+binders_more retO at a A i p e b = b
+binders_more {proof} {h} {Γ} bindO at a A i p e b =
+    let says : A ≡ Says (first_child A) (second_child A) = ready_says at A e in
+    let q : Plain (first_child A) × Plain (second_child A) = children_plain (subst PlainType says p) in
+    let x : List ℕ = op_word saysO ∷ encode (raise 1 (first_child A)) in
+    let l : length (encode (raise 1 (first_child A))) ≡ size (first_child A) = encode_size _ ∙ size_shift 0 _ (first_child A) in
+    let s : size A ≡ suc (size (first_child A) + size (second_child A)) = ap size says in
+    let n : entry_head + (length x + size (second_child A)) ≡ entry_head + size A = omega arith in
+    subst (λ (w : List ℕ). Binders proof w (second_child A ∷ Γ))
+    (ap₂ (λ (k : ℕ) (w : List ℕ). k ∷ 0 ∷ size (second_child A) ∷ (op_word saysO ∷ w)) n
+    (sym (append_assoc (encode (raise 1 (first_child A))) (encode (second_child A)) h)))
+    (in_workspace {s = 0} x q.1 (omega arith) b)
 
 -- ---- what the check of a node is
 
 module _ (Σ Γ : List Term) (at : ℕ) (o : Op) (a b : Term) where
-  first-refused : (m p : ℕ) → infer Σ Γ (at + 1) a ≡ refused m p → infer Σ Γ at (node o a b) ≡ refused m p
-  first-refused m p e = uniform Σ Γ at o a b ∙ ap (λ x. x >>= λ A. node-rule Σ Γ at o a b A) e
+  first_refused : (m p : ℕ) → infer Σ Γ (at + 1) a ≡ refused m p → infer Σ Γ at (node o a b) ≡ refused m p
+  first_refused m p e = uniform Σ Γ at o a b ∙ ap (λ x. x >>= λ A. node_rule Σ Γ at o a b A) e
 
   module _ (A : Term) (is : infer Σ Γ (at + 1) a ≡ ok A) where
-    ruled : infer Σ Γ at (node o a b) ≡ node-rule Σ Γ at o a b A
-    ruled = uniform Σ Γ at o a b ∙ ap (λ x. x >>= λ A. node-rule Σ Γ at o a b A) is
+    ruled : infer Σ Γ at (node o a b) ≡ node_rule Σ Γ at o a b A
+    ruled = uniform Σ Γ at o a b ∙ ap (λ x. x >>= λ A. node_rule Σ Γ at o a b A) is
 
-    test-refused : (m p : ℕ) → ready o at A ≡ refused m p → infer Σ Γ at (node o a b) ≡ refused m p
-    test-refused m p e = ruled ∙ ap (λ x. x >> (infer Σ (within o a A Γ) (at + 1 + size a) b >>= λ B. node-type o at a b A B)) e
+    test_refused : (m p : ℕ) → ready o at A ≡ refused m p → infer Σ Γ at (node o a b) ≡ refused m p
+    test_refused m p e = ruled ∙ ap (λ x. x >> (infer Σ (within o a A Γ) (at + 1 + size a) b >>= λ B. node_type o at a b A B)) e
 
-    passed-test : ready o at A ≡ ok tt → infer Σ Γ at (node o a b) ≡ (infer Σ (within o a A Γ) (at + 1 + size a) b >>= λ B. node-type o at a b A B)
-    passed-test e = ruled ∙ ap (λ x. x >> (infer Σ (within o a A Γ) (at + 1 + size a) b >>= λ B. node-type o at a b A B)) e
+    passed_test : ready o at A ≡ ok tt → infer Σ Γ at (node o a b) ≡ (infer Σ (within o a A Γ) (at + 1 + size a) b >>= λ B. node_type o at a b A B)
+    passed_test e = ruled ∙ ap (λ x. x >> (infer Σ (within o a A Γ) (at + 1 + size a) b >>= λ B. node_type o at a b A B)) e
 
-    module _ (passed : ready o at A ≡ ok tt) (next : ℕ) (next-is : next ≡ at + 1 + size a) where
-      second-refused : (m p : ℕ) → infer Σ (within o a A Γ) next b ≡ refused m p → infer Σ Γ at (node o a b) ≡ refused m p
-      second-refused m p e = passed-test passed ∙ ap (λ x. x >>= λ B. node-type o at a b A B) (ap (λ (i : ℕ). infer Σ (within o a A Γ) i b) (sym next-is) ∙ e)
+    module _ (passed : ready o at A ≡ ok tt) (next : ℕ) (next_is : next ≡ at + 1 + size a) where
+      second_refused : (m p : ℕ) → infer Σ (within o a A Γ) next b ≡ refused m p → infer Σ Γ at (node o a b) ≡ refused m p
+      second_refused m p e = passed_test passed ∙ ap (λ x. x >>= λ B. node_type o at a b A B) (ap (λ (i : ℕ). infer Σ (within o a A Γ) i b) (sym next_is) ∙ e)
 
-      node-formed : (B : Term) → infer Σ (within o a A Γ) next b ≡ ok B → infer Σ Γ at (node o a b) ≡ node-type o at a b A B
-      node-formed B e = passed-test passed ∙ ap (λ x. x >>= λ B. node-type o at a b A B) (ap (λ (i : ℕ). infer Σ (within o a A Γ) i b) (sym next-is) ∙ e)
+      node_formed : (B : Term) → infer Σ (within o a A Γ) next b ≡ ok B → infer Σ Γ at (node o a b) ≡ node_type o at a b A B
+      node_formed B e = passed_test passed ∙ ap (λ x. x >>= λ B. node_type o at a b A B) (ap (λ (i : ℕ). infer Σ (within o a A Γ) i b) (sym next_is) ∙ e)
 
 -- what a derivation ensures
 abbrev pub Derives : (sig table proof old : List ℕ) → (floor used at left : ℕ) → (new : List ℕ) → Derivation → Type 0
@@ -261,9 +261,9 @@ carried {sig} {table} {proof} {old} {floor} {used} {at} {left} e q d = subst₂ 
 
 module _ {sig table proof ws : List ℕ} {floor used at left : ℕ} {Σ Γ : List Term} {o : Op} {a b : Term}
     (R : SubjectAt sig table proof ws floor used at left Σ Γ (node o a b)) where
-  pub first-ready : SubjectAt sig table proof ws floor used (at + 1) (left - 1) Σ Γ a
+  pub first_ready : SubjectAt sig table proof ws floor used (at + 1) (left - 1) Σ Γ a
   unfolding depth
-  first-ready = record {
+  first_ready = record {
     declared = R.declared;
     signature = R.signature;
     binders = R.binders;
@@ -277,74 +277,74 @@ module _ {sig table proof ws : List ℕ} {floor used at left : ℕ} {Σ Γ : Lis
   unfolding depth
   two_deep = omega (arith, R.deep, depth_pos a)
 
-  pub between-children : (mid : List ℕ) (r : Derivation) (n next : ℕ) → Derives sig table proof ws floor used (at + 1) (left - 1) mid r → r ≡ Typed n next
+  pub between_children : (mid : List ℕ) (r : Derivation) (n next : ℕ) → Derives sig table proof ws floor used (at + 1) (left - 1) mid r → r ≡ Typed n next
       → BetweenChildren proof ws mid used at next n Σ Γ o a
-  between-children mid r n next d q =
-      let D = d Σ Γ a first-ready in
-      let A = typed-is _ _ used ws mid r n next D q in
-      let P = type-of first-ready A.is in
+  between_children mid r n next d q =
+      let D = d Σ Γ a first_ready in
+      let A = typed_is _ _ used ws mid r n next D q in
+      let P = type_of first_ready A.is in
       record {
         type = A.type;
         is = A.is;
         plain = P.0;
         small = P.1;
-        enters = record { head = at_head R.here; here = at_left R.here; next-is = A.ends; type = A.front; type-words = A.words };
+        enters = record { head = at_head R.here; here = at_left R.here; next_is = A.ends; type = A.front; type_words = A.words };
         kept = D.kept;
       }
 
   module _ (mid mid2 : List ℕ) (next n keep kept : ℕ) (B : BetweenChildren proof ws mid used at next n Σ Γ o a)
       (I : Inside mid mid2 used at n keep kept o a B.type)
-      (below : floor ≤ used) (same : length mid2 ≡ length ws) (room : used + left * level-words + front-words ≤ length ws) where
+      (below : floor ≤ used) (same : length mid2 ≡ length ws) (room : used + left * level_words + front_words ≤ length ws) where
     abbrev A : Term
     A = B.type
 
-    first-has : Has Σ Γ a A
-    first-has = (sound Σ R.signature a Γ (at + 1) R.context B.is).0
+    first_has : Has Σ Γ a A
+    first_has = (sound Σ R.signature a Γ (at + 1) R.context B.is).0
 
     -- a level's words, and those of the levels below it
-    mul-level : (k : ℕ) → 2 ≤ k → level-words + level-words ≤ k * level-words
-    mul-level k l = omega arith
+    mul_level : (k : ℕ) → 2 ≤ k → level_words + level_words ≤ k * level_words
+    mul_level k l = omega arith
 
     -- a level keeps a type at the front or an entry at the end
-    pub level : keep + kept ≤ used + level-words
-    level = go o I.keep-is I.kept-is (entry-short o at a A B.small I.passed)
+    pub level : keep + kept ≤ used + level_words
+    level = go o I.keep_is I.kept_is (entry_short o at a A B.small I.passed)
       where
-        go : (o : Op) → keep ≡ keep-of o n → kept ≡ used + length (binder-entry o at a A) → length (binder-entry o at a A) ≤ level-words
-            → keep + kept ≤ used + level-words
+        go : (o : Op) → keep ≡ keep_of o n → kept ≡ used + length (binder_entry o at a A) → length (binder_entry o at a A) ≤ level_words
+            → keep + kept ≤ used + level_words
         go saysO e f l = omega arith
         go piO e f l = omega arith
         go lamO e f l = omega arith
-        go appO e f l = omega (arith, B.enters.type-words, B.small)
+        go appO e f l = omega (arith, B.enters.type_words, B.small)
         go retO e f l = omega arith
         go bindO e f l = omega arith
 
-    kept_here : tail kept (rest_of keep mid2) ≡ binder-entry o at a A ++ tail used ws
+    kept_here : tail kept (rest_of keep mid2) ≡ binder_entry o at a A ++ tail used ws
     kept_here =
         let l = level in let m = two_deep in
-        rest-tail keep kept mid2 (omega (arith, mul-level left two_deep)) ∙ I.entered ∙ ap (λ (x : List ℕ). binder-entry o at a A ++ x) B.kept
+        rest_tail keep kept mid2 (omega (arith, mul_level left two_deep)) ∙ I.entered ∙ ap (λ (x : List ℕ). binder_entry o at a A ++ x) B.kept
 
-    scope-here : scope-words floor kept (rest_of keep mid2) ≡ binder-entry o at a A ++ scope-words floor used ws
-    scope-here =
-        let k = I.kept-is in
-        let e : kept - floor ≡ length (binder-entry o at a A) + (used - floor) = omega arith in
-        ap₂ (λ (i : ℕ) (x : List ℕ). take i x) e kept_here ∙ take-append-add (binder-entry o at a A) (tail used ws) (used - floor)
+    scope_here : scope_words floor kept (rest_of keep mid2) ≡ binder_entry o at a A ++ scope_words floor used ws
+    scope_here =
+        let k = I.kept_is in
+        let e : kept - floor ≡ length (binder_entry o at a A) + (used - floor) = omega arith in
+        ap₂ (λ (i : ℕ) (x : List ℕ). take i x) e kept_here ∙ take-append-add (binder_entry o at a A) (tail used ws) (used - floor)
 
-    context-here : Context Σ (within o a A Γ)
+    context_here : Context Σ (within o a A Γ)
     unfolding ready
-    context-here = go o I.passed
+    context_here = go o I.passed
       where
         go : (o : Op) → ready o at A ≡ ok tt → Context Σ (within o a A Γ)
         go saysO e = R.context
-        go piO e = binder R.context first-has (domain-ok A (require-ok (domain A) _ _ e))
-        go lamO e = binder R.context first-has (domain-ok A (require-ok (domain A) _ _ e))
+        go piO e = binder R.context first_has (domain_ok A (require_ok (domain A) _ _ e))
+        go lamO e = binder R.context first_has (domain_ok A (require_ok (domain A) _ _ e))
         go appO e = R.context
         go retO e = R.context
         go bindO e =
-            binder R.context (said-types Σ R.signature (stratify Σ R.signature R.context (subst (Has Σ Γ a) (ready-says at A e) first-has))).1
-            of-prop
+            binder R.context (said_types Σ R.signature (stratify Σ R.signature R.context (subst (Has Σ Γ a) (ready_says at A e) first_has))).1
+            of_prop
 
-    within-length : length (within o a A Γ) ≤ length Γ + 1
-    within-length = go o
+    within_length : length (within o a A Γ) ≤ length Γ + 1
+    within_length = go o
       where
         go : (o : Op) → length (within o a A Γ) ≤ length Γ + 1
         go saysO = omega arith
@@ -354,18 +354,18 @@ module _ {sig table proof ws : List ℕ} {floor used at left : ℕ} {Σ Γ : Lis
         go retO = omega arith
         go bindO = omega arith
 
-    pub second-ready : SubjectAt sig table proof (rest_of keep mid2) floor kept next (left - 1) Σ (within o a A Γ) b
+    pub second_ready : SubjectAt sig table proof (rest_of keep mid2) floor kept next (left - 1) Σ (within o a A Γ) b
     unfolding depth
-    second-ready = record {
+    second_ready = record {
       declared = R.declared;
       signature = R.signature;
       binders =
-          subst (λ (w : List ℕ). Binders proof w (within o a A Γ)) (sym scope-here)
-          (binders-more o at a A B.enters.here B.plain I.passed R.binders);
-      context = context-here;
-      here = subst (λ (i : ℕ). At proof i b) (sym B.enters.next-is) (at_right R.here);
+          subst (λ (w : List ℕ). Binders proof w (within o a A Γ)) (sym scope_here)
+          (binders_more o at a A B.enters.here B.plain I.passed R.binders);
+      context = context_here;
+      here = subst (λ (i : ℕ). At proof i b) (sym B.enters.next_is) (at_right R.here);
       deep = omega (arith, R.deep);
-      few = omega (arith, R.few, within-length, two_deep);
+      few = omega (arith, R.few, within_length, two_deep);
     }
 
     module _ (part : List ℕ) (r : Derivation) (same-part : length part ≡ length (rest_of keep mid2))
@@ -373,152 +373,152 @@ module _ {sig table proof ws : List ℕ} {floor used at left : ℕ} {Σ Γ : Lis
       abbrev mid3 : List ℕ
       mid3 = whole_of keep mid2 part
 
-      second-derived : Derived (infer Σ (within o a A Γ) next b) (next + size b) kept (rest_of keep mid2) part r
-      second-derived = d Σ (within o a A Γ) b second-ready
+      second_derived : Derived (infer Σ (within o a A Γ) next b) (next + size b) kept (rest_of keep mid2) part r
+      second_derived = d Σ (within o a A Γ) b second_ready
 
-      fits-level : keep + kept + front-words ≤ length mid2
-      fits-level = omega (arith, level, two_deep, mul-level left two_deep)
+      fits_level : keep + kept + front_words ≤ length mid2
+      fits_level = omega (arith, level, two_deep, mul_level left two_deep)
 
       kept_back : tail kept mid3 ≡ tail kept mid2
-      kept_back = whole-tail keep kept mid2 part (omega (arith, fits-level)) same-part second-derived.kept
+      kept_back = whole_tail keep kept mid2 part (omega (arith, fits_level)) same-part second_derived.kept
 
       length_back : length mid3 ≡ length ws
-      length_back = whole_length keep mid2 part (omega (arith, fits-level)) same-part ∙ same
+      length_back = whole_length keep mid2 part (omega (arith, fits_level)) same-part ∙ same
 
-      used-back : tail used mid3 ≡ tail used ws
-      used-back =
-          tail-behind used kept mid3 (binder-entry o at a A) (tail used ws) I.kept-is (omega (arith, fits-level, length_back))
-          (kept_back ∙ I.entered ∙ ap (λ (x : List ℕ). binder-entry o at a A ++ x) B.kept)
+      used_back : tail used mid3 ≡ tail used ws
+      used_back =
+          tail_behind used kept mid3 (binder_entry o at a A) (tail used ws) I.kept_is (omega (arith, fits_level, length_back))
+          (kept_back ∙ I.entered ∙ ap (λ (x : List ℕ). binder_entry o at a A ++ x) B.kept)
 
-      pub second-refusal : (m p : ℕ) → r ≡ Refused m p → Derived (infer Σ Γ at (node o a b)) (at + size (node o a b)) used ws mid3 r
-      second-refusal m p q =
-          refused-derived _ _ used ws mid3 r m p
-          (second-refused Σ Γ at o a b A B.is I.passed next B.enters.next-is m p
-          (refused-is _ _ kept (rest_of keep mid2) part r m p second-derived q))
-          q used-back
+      pub second_refusal : (m p : ℕ) → r ≡ Refused m p → Derived (infer Σ Γ at (node o a b)) (at + size (node o a b)) used ws mid3 r
+      second_refusal m p q =
+          refused_derived _ _ used ws mid3 r m p
+          (second_refused Σ Γ at o a b A B.is I.passed next B.enters.next_is m p
+          (refused_is _ _ kept (rest_of keep mid2) part r m p second_derived q))
+          q used_back
 
       module _ (m end : ℕ) (q : r ≡ Typed m end) where
         pub second_type : Answered (infer Σ (within o a A Γ) next b) (next + size b) part m end
-        second_type = typed-is _ _ kept (rest_of keep mid2) part r m end second-derived q
+        second_type = typed_is _ _ kept (rest_of keep mid2) part r m end second_derived q
 
         abbrev C : Term
         C = second_type.type
 
-        second-small : size C ≤ most-type-words
-        second-small = (type-of second-ready second_type.is).1
+        second_small : size C ≤ most_type_words
+        second_small = (type_of second_ready second_type.is).1
 
-        node-is : infer Σ Γ at (node o a b) ≡ node-type o at a b A C
-        node-is = node-formed Σ Γ at o a b A B.is I.passed next B.enters.next-is C second_type.is
+        node_is : infer Σ Γ at (node o a b) ≡ node_type o at a b A C
+        node_is = node_formed Σ Γ at o a b A B.is I.passed next B.enters.next_is C second_type.is
 
-        node-plain : (X : Term) → node-type o at a b A C ≡ ok X → PlainType X
-        node-plain X e = (type-of R (node-is ∙ e)).0
+        node_plain : (X : Term) → node_type o at a b A C ≡ ok X → PlainType X
+        node_plain X e = (type_of R (node_is ∙ e)).0
 
         -- the principal of a Says type is plain under one binder more
-        principal : A ≡ Says (first-child A) (second-child A) → Plain (raise 1 (first-child A))
+        principal : A ≡ Says (first_child A) (second_child A) → Plain (raise 1 (first_child A))
         unfolding size
         principal e =
-            let h = said-types Σ R.signature (stratify Σ R.signature R.context (subst (Has Σ Γ a) e first-has)) in
-            let p : Plain (first-child A) × Plain (second-child A) = children-plain (subst PlainType e B.plain) in
-            let s : size A ≡ suc (size (first-child A) + size (second-child A)) = ap size e in
-            plain-typed (weaken-one Σ R.signature (second-child A) h.0) (omega (arith, size-shift 0 (pos 1) (first-child A), B.small, R.few))
-            (named-shift 0 (pos 1) (first-child A) (in-range-named (first-child A) (plain-in-range (first-child A) p.0)))
+            let h = said_types Σ R.signature (stratify Σ R.signature R.context (subst (Has Σ Γ a) e first_has)) in
+            let p : Plain (first_child A) × Plain (second_child A) = children_plain (subst PlainType e B.plain) in
+            let s : size A ≡ suc (size (first_child A) + size (second_child A)) = ap size e in
+            plain_typed (weaken_one Σ R.signature (second_child A) h.0) (omega (arith, size_shift 0 (pos 1) (first_child A), B.small, R.few))
+            (named_shift 0 (pos 1) (first_child A) (in_range_named (first_child A) (plain_in_range (first_child A) p.0)))
 
-        first-here : First o mid3 b A C
-        unfolding node-type
-        first-here = go o I.keep-is I.passed node-plain
+        first_here : First o mid3 b A C
+        unfolding node_type
+        first_here = go o I.keep_is I.passed node_plain
           where
-            go : (o : Op) → keep ≡ keep-of o n → ready o at A ≡ ok tt → ((X : Term) → node-type o at a b A C ≡ ok X → PlainType X) → First o mid3 b A C
+            go : (o : Op) → keep ≡ keep_of o n → ready o at A ≡ ok tt → ((X : Term) → node_type o at a b A C ≡ ok X → PlainType X) → First o mid3 b A C
             go saysO k e f = tt
             go piO k e f = tt
             go lamO k e f = tt
             go appO k e f = (
-              ready-pi at A e,
-              type-before keep mid2 part A (k ∙ B.enters.type-words) I.front,
-              λ y z. f (fill (second-child A) b) (pass _ at (same-yes y) (measured-small at z)),
+              ready_pi at A e,
+              type_before keep mid2 part A (k ∙ B.enters.type_words) I.front,
+              λ y z. f (fill (second_child A) b) (pass _ at (same_yes y) (measured_small at z)),
             )
             go retO k e f = tt
-            go bindO k e f = let x = ready-says at A e in (x, principal x)
+            go bindO k e f = let x = ready_says at A e in (x, principal x)
 
-        ends-here : end ≡ at + size (node o a b)
+        ends_here : end ≡ at + size (node o a b)
         unfolding size
-        ends-here = omega (arith, second_type.ends, B.enters.next-is)
+        ends_here = omega (arith, second_type.ends, B.enters.next_is)
 
-        pub forms-here : Forms proof mid3 kept at next n m end o a b A C
-        forms-here = record {
+        pub forms_here : Forms proof mid3 kept at next n m end o a b A C
+        forms_here = record {
           here = R.here;
-          next-is = B.enters.next-is;
-          end_is = ends-here;
-          first-words = B.enters.type-words;
-          first-type = first-here;
-          second-words = second_type.words;
-          second_type = subst (λ (i : ℕ). TypeAt mid3 i C) I.keep-is (type-behind keep mid2 part C (omega (arith, fits-level)) second_type.front);
+          next_is = B.enters.next_is;
+          end_is = ends_here;
+          first_words = B.enters.type_words;
+          first_type = first_here;
+          second_words = second_type.words;
+          second_type = subst (λ (i : ℕ). TypeAt mid3 i C) I.keep_is (type_behind keep mid2 part C (omega (arith, fits_level)) second_type.front);
           rest = tail used mid;
           kept = kept_back ∙ I.entered;
         }
 
-        pub formable : length proof ≤ most-words → Formable proof mid3 kept at next n m end
+        pub formable : length proof ≤ most_words → Formable proof mid3 kept at next n m end
         formable short = record {
           o = o;
           a = a;
           b = b;
           A = A;
           B = C;
-          forms = forms-here;
-          small-first = omega (arith, B.enters.type-words, B.small);
-          small-second = omega (arith, second_type.words, second-small);
+          forms = forms_here;
+          small_first = omega (arith, B.enters.type_words, B.small);
+          small_second = omega (arith, second_type.words, second_small);
           short = short;
-          room = omega (arith, fits-level, length_back, same, I.keep-is);
+          room = omega (arith, fits_level, length_back, same, I.keep_is);
         }
 
-        pub node-derived : (mid4 : List ℕ) (s : Derivation) → length mid4 ≡ length mid3 → TypeFormed (node-type o at a b A C) end mid3 mid4 s
+        pub node_derived : (mid4 : List ℕ) (s : Derivation) → length mid4 ≡ length mid3 → TypeFormed (node_type o at a b A C) end mid3 mid4 s
             → Derived (infer Σ Γ at (node o a b)) (at + size (node o a b)) used ws mid4 s
-        node-derived mid4 s e f =
-            let D = from_front (node-type o at a b A C) end used mid3 mid4 s e (omega (arith, fits-level, length_back, I.kept-is)) f in
-            subst₂ (λ (x : Result Term) (i : ℕ). Derived x i used ws mid4 s) (sym node-is) ends-here
-            (record { answer = D.answer; front = D.front; kept = D.kept ∙ used-back })
+        node_derived mid4 s e f =
+            let D = from_front (node_type o at a b A C) end used mid3 mid4 s e (omega (arith, fits_level, length_back, I.kept_is)) f in
+            subst₂ (λ (x : Result Term) (i : ℕ). Derived x i used ws mid4 s) (sym node_is) ends_here
+            (record { answer = D.answer; front = D.front; kept = D.kept ∙ used_back })
 
 -- ---- leaves and Signs
 
 module _ {sig table proof ws : List ℕ} {floor used at left : ℕ} {Σ Γ : List Term} (k : ℕ) (new : List ℕ) (r : Derivation) (same : length new ≡ length ws)
-    (room : used + front-words ≤ length ws) where
-  pub atom-derived : (t : Term) → k ≡ kind-atom → k ≡ term-kind t → SubjectAt sig table proof ws floor used at left Σ Γ t
-      → ((Σ : List Term) → (a : Atom) → Declared sig table Σ → get_or proof at 0 ≡ atom-word a → PlainAtom a → TypeFormed (atom-type Σ at a) (at + 1) ws new r)
+    (room : used + front_words ≤ length ws) where
+  pub atom_derived : (t : Term) → k ≡ kind_atom → k ≡ term_kind t → SubjectAt sig table proof ws floor used at left Σ Γ t
+      → ((Σ : List Term) → (a : Atom) → Declared sig table Σ → get_or proof at 0 ≡ atom_word a → PlainAtom a → TypeFormed (atom_type Σ at a) (at + 1) ws new r)
       → Derived (infer Σ Γ at t) (at + size t) used ws new r
   unfolding infer size Plain
-  atom-derived (atom a) z h R f = from_front _ _ used ws new r same room (f Σ a R.declared (at_head R.here) R.here.plain)
-  atom-derived (var n) z h R f = absurd (omega arith)
-  atom-derived (sign n q) z h R f = absurd (omega arith)
-  atom-derived (node o a b) z h R f = absurd (omega (arith, op-low o))
+  atom_derived (atom a) z h R f = from_front _ _ used ws new r same room (f Σ a R.declared (at_head R.here) R.here.plain)
+  atom_derived (var n) z h R f = absurd (omega arith)
+  atom_derived (sign n q) z h R f = absurd (omega arith)
+  atom_derived (node o a b) z h R f = absurd (omega (arith, op_low o))
 
   -- a variable's type is plain where the variable stands
   raises : (n : ℕ) → SubjectAt sig table proof ws floor used at left Σ Γ (var n) → Raises Γ n
   unfolding infer
   raises n R A e s =
-      (type-of R (ap (λ (x : Option Term). known unbound-variable at x >>= λ A. measured at (raise (suc n) A)) e
-      ∙ measured-small at (subst (λ (i : ℕ). i ≤ most-type-words) (sym (size-shift 0 (pos (suc n)) A)) s))).0
+      (type_of R (ap (λ (x : Option Term). known unbound_variable at x >>= λ A. measured at (raise (suc n) A)) e
+      ∙ measured_small at (subst (λ (i : ℕ). i ≤ most_type_words) (sym (size_shift 0 (pos (suc n)) A)) s))).0
 
-  pub variable-derived : (t : Term) → k ≡ kind-variable → k ≡ term-kind t → SubjectAt sig table proof ws floor used at left Σ Γ t
-      → (n : ℕ) → n ≡ payload-of (get_or proof at 0) → ((Γ : List Term) → Binders proof (scope-words floor used ws) Γ → Raises Γ n
-      → TypeFormed (variable-type Γ at n) (at + 1) ws new r)
+  pub variable_derived : (t : Term) → k ≡ kind_variable → k ≡ term_kind t → SubjectAt sig table proof ws floor used at left Σ Γ t
+      → (n : ℕ) → n ≡ payload_of (get_or proof at 0) → ((Γ : List Term) → Binders proof (scope_words floor used ws) Γ → Raises Γ n
+      → TypeFormed (variable_type Γ at n) (at + 1) ws new r)
       → Derived (infer Σ Γ at t) (at + size t) used ws new r
   unfolding infer size
-  variable-derived (atom a) z h R m q f = absurd (omega arith)
-  variable-derived (var n) z h R m q f =
-      let e = q ∙ at-payload proof at n R.here in
-      from_front _ _ used ws new r same room (subst (λ (i : ℕ). TypeFormed (variable-type Γ at i) (at + 1) ws new r) e
+  variable_derived (atom a) z h R m q f = absurd (omega arith)
+  variable_derived (var n) z h R m q f =
+      let e = q ∙ at_payload proof at n R.here in
+      from_front _ _ used ws new r same room (subst (λ (i : ℕ). TypeFormed (variable_type Γ at i) (at + 1) ws new r) e
       (f Γ R.binders (subst (Raises Γ) (sym e) (raises n R))))
-  variable-derived (sign n p) z h R m q f = absurd (omega arith)
-  variable-derived (node o a b) z h R m q f = absurd (omega (arith, op-low o))
+  variable_derived (sign n p) z h R m q f = absurd (omega arith)
+  variable_derived (node o a b) z h R m q f = absurd (omega (arith, op_low o))
 
-  pub sign-refused : (t : Term) (m p : ℕ) → k ≡ kind-sign → k ≡ term-kind t → SubjectAt sig table proof ws floor used at left Σ Γ t
+  pub sign_refused : (t : Term) (m p : ℕ) → k ≡ kind_sign → k ≡ term_kind t → SubjectAt sig table proof ws floor used at left Σ Γ t
       → Derives sig table proof ws used used (at + 1) (left - 1) new r → r ≡ Refused m p → Derived (infer Σ Γ at t) (at + size t) used ws new r
   unfolding infer
-  sign-refused (atom a) m p z h R d q = absurd (omega arith)
-  sign-refused (var n) m p z h R d q = absurd (omega arith)
-  sign-refused (sign n t) m p z h R d q =
-      let D = d Σ [] t (sign-ready R) in
-      refused-derived _ _ used ws new r m p (ap (λ x. x >>= λ s. sign-type at n t s) (refused-is _ _ used ws new r m p D q)) q D.kept
-  sign-refused (node o a b) m p z h R d q = absurd (omega (arith, op-low o))
+  sign_refused (atom a) m p z h R d q = absurd (omega arith)
+  sign_refused (var n) m p z h R d q = absurd (omega arith)
+  sign_refused (sign n t) m p z h R d q =
+      let D = d Σ [] t (sign_ready R) in
+      refused_derived _ _ used ws new r m p (ap (λ x. x >>= λ s. sign_type at n t s) (refused_is _ _ used ws new r m p D q)) q D.kept
+  sign_refused (node o a b) m p z h R d q = absurd (omega (arith, op_low o))
 
 -- a Sign's proposition has its type
 pub record SignedIn (proof ws new : List ℕ) (used at n end : ℕ) (Σ Γ : List Term) (t : Term) : Type 0 where
@@ -526,56 +526,56 @@ pub record SignedIn (proof ws new : List ℕ) (used at n end : ℕ) (Σ Γ : Lis
   pub q : Term
   pub s : Term
   pub signs : Signs proof new at n end a q s
-  pub is : infer Σ Γ at t ≡ sign-type at a q s
+  pub is : infer Σ Γ at t ≡ sign_type at a q s
   pub ends : at + size t ≡ end
   pub kept : tail used new ≡ tail used ws
 
-pub signed-in : {sig table proof ws : List ℕ} {floor used at left : ℕ} {Σ Γ : List Term} (t : Term) (k : ℕ) (new : List ℕ) (r : Derivation) (n end : ℕ)
-    → k ≡ kind-sign → k ≡ term-kind t → SubjectAt sig table proof ws floor used at left Σ Γ t
+pub signed_in : {sig table proof ws : List ℕ} {floor used at left : ℕ} {Σ Γ : List Term} (t : Term) (k : ℕ) (new : List ℕ) (r : Derivation) (n end : ℕ)
+    → k ≡ kind_sign → k ≡ term_kind t → SubjectAt sig table proof ws floor used at left Σ Γ t
     → Derives sig table proof ws used used (at + 1) (left - 1) new r → r ≡ Typed n end → SignedIn proof ws new used at n end Σ Γ t
 unfolding infer size
-signed-in (atom a) k new r n end z h R d q = absurd (omega arith)
-signed-in (var i) k new r n end z h R d q = absurd (omega arith)
-signed-in {ws} {used} {at} {Σ} (sign a u) k new r n end z h R d q =
-    let D = d Σ [] u (sign-ready R) in
-    let A = typed-is _ _ used ws new r n end D q in
+signed_in (atom a) k new r n end z h R d q = absurd (omega arith)
+signed_in (var i) k new r n end z h R d q = absurd (omega arith)
+signed_in {ws} {used} {at} {Σ} (sign a u) k new r n end z h R d q =
+    let D = d Σ [] u (sign_ready R) in
+    let A = typed_is _ _ used ws new r n end D q in
     let e : end ≡ at + size (sign a u) = omega (arith, A.ends) in
     record {
       a = a;
       q = u;
       s = A.type;
-      signs = record { here = R.here; end_is = e; type = A.front; type-words = A.words };
-      is = ap (λ x. x >>= λ s. sign-type at a u s) A.is;
+      signs = record { here = R.here; end_is = e; type = A.front; type_words = A.words };
+      is = ap (λ x. x >>= λ s. sign_type at a u s) A.is;
       ends = sym e;
       kept = D.kept;
     }
-signed-in (node o a b) k new r n end z h R d q = absurd (omega (arith, op-low o))
+signed_in (node o a b) k new r n end z h R d q = absurd (omega (arith, op_low o))
 
-pub sign-derived : {proof ws mid : List ℕ} {used at n end : ℕ} {Σ Γ : List Term} {t : Term} (S : SignedIn proof ws mid used at n end Σ Γ t) (new : List ℕ)
-    (r : Derivation) → length new ≡ length mid → used + front-words ≤ length mid → TypeFormed (sign-type at S.a S.q S.s) end mid new r
+pub sign_derived : {proof ws mid : List ℕ} {used at n end : ℕ} {Σ Γ : List Term} {t : Term} (S : SignedIn proof ws mid used at n end Σ Γ t) (new : List ℕ)
+    (r : Derivation) → length new ≡ length mid → used + front_words ≤ length mid → TypeFormed (sign_type at S.a S.q S.s) end mid new r
     → Derived (infer Σ Γ at t) (at + size t) used ws new r
-sign-derived {ws} {mid} {used} {at} {end} S new r e l f =
-    let D = from_front (sign-type at S.a S.q S.s) end used mid new r e l f in
+sign_derived {ws} {mid} {used} {at} {end} S new r e l f =
+    let D = from_front (sign_type at S.a S.q S.s) end used mid new r e l f in
     subst₂ (λ (x : Result Term) (i : ℕ). Derived x i used ws new r) (sym S.is) (sym S.ends)
     (record { answer = D.answer; front = D.front; kept = D.kept ∙ S.kept })
 
 -- ---- a node's refusals before its second child
 
-pub first-refusal : {sig table proof ws : List ℕ} {floor used at left : ℕ} {Σ Γ : List Term} {o : Op} {a b : Term} (new : List ℕ) (r : Derivation) (m p : ℕ)
+pub first_refusal : {sig table proof ws : List ℕ} {floor used at left : ℕ} {Σ Γ : List Term} {o : Op} {a b : Term} (new : List ℕ) (r : Derivation) (m p : ℕ)
     → SubjectAt sig table proof ws floor used at left Σ Γ (node o a b)
     → Derives sig table proof ws floor used (at + 1) (left - 1) new r → r ≡ Refused m p
     → Derived (infer Σ Γ at (node o a b)) (at + size (node o a b)) used ws new r
-first-refusal {ws} {used} {at} {Σ} {Γ} {o} {a} {b} new r m p R d q =
-    let D = d Σ Γ a (first-ready R) in
-    refused-derived _ _ used ws new r m p (first-refused Σ Γ at o a b m p (refused-is _ _ used ws new r m p D q)) q D.kept
+first_refusal {ws} {used} {at} {Σ} {Γ} {o} {a} {b} new r m p R d q =
+    let D = d Σ Γ a (first_ready R) in
+    refused_derived _ _ used ws new r m p (first_refused Σ Γ at o a b m p (refused_is _ _ used ws new r m p D q)) q D.kept
 
-pub test-refusal : {sig table proof ws : List ℕ} {floor used at left : ℕ} {Σ Γ : List Term} {o : Op} {a b : Term} (mid mid2 : List ℕ) (next n : ℕ)
+pub test_refusal : {sig table proof ws : List ℕ} {floor used at left : ℕ} {Σ Γ : List Term} {o : Op} {a b : Term} (mid mid2 : List ℕ) (next n : ℕ)
     → SubjectAt sig table proof ws floor used at left Σ Γ (node o a b)
     → (B : BetweenChildren proof ws mid used at next n Σ Γ o a) → (e : Entered) (m : ℕ) → Entering o at a B.type n used mid mid2 e → e ≡ EnteredRefused m
     → Derived (infer Σ Γ at (node o a b)) (at + size (node o a b)) used ws mid2 (Refused m at)
-test-refusal {ws} {used} {at} {Σ} {Γ} {o} {a} {b} mid mid2 next n R B e m E q =
+test_refusal {ws} {used} {at} {Σ} {Γ} {o} {a} {b} mid mid2 next n R B e m E q =
     let F = failed o at a B.type n used mid mid2 e m E q in
-    refused-derived _ _ used ws mid2 _ m at (test-refused Σ Γ at o a b B.type B.is m at F.fails) refl (ap (tail used) F.unchanged ∙ B.kept)
+    refused_derived _ _ used ws mid2 _ m at (test_refused Σ Γ at o a b B.type B.is m at F.fails) refl (ap (tail used) F.unchanged ∙ B.kept)
 
 -- ---- a node, by the number of its word's kind
 
@@ -584,10 +584,10 @@ pub record NodeSubject (sig table proof ws : List ℕ) (floor used at left : ℕ
   pub o : Op
   pub a : Term
   pub b : Term
-  pub ready-node : SubjectAt sig table proof ws floor used at left Σ Γ (node o a b)
+  pub ready_node : SubjectAt sig table proof ws floor used at left Σ Γ (node o a b)
 
 -- a Sign stands ready
 pub record SignSubject (sig table proof ws : List ℕ) (floor used at left : ℕ) (Σ Γ : List Term) : Type 0 where
   pub n : ℕ
   pub q : Term
-  pub ready-sign : SubjectAt sig table proof ws floor used at left Σ Γ (sign n q)
+  pub ready_sign : SubjectAt sig table proof ws floor used at left Σ Γ (sign n q)

@@ -9,8 +9,8 @@ use lib.Seq.{drop-drop, drop-append-add, length-take-le, take_all}
 use Rattle.rules.specs.Scope.{tail}
 
 -- what is not written from the place i on is kept
-pub tail-kept : (k i : ℕ) (old new : List ℕ) → length new ≡ length old → drop i new ≡ drop i old → i + k ≤ length old → tail k new ≡ tail k old
-tail-kept k i old new e d l =
+pub tail_kept : (k i : ℕ) (old new : List ℕ) → length new ≡ length old → drop i new ≡ drop i old → i + k ≤ length old → tail k new ≡ tail k old
+tail_kept k i old new e d l =
     let q : length old - k ≡ i + (length old - k - i) = omega arith in
     ap (λ (j : ℕ). drop j new) (ap (λ (j : ℕ). j - k) e ∙ q)
     ∙ sym (drop-drop (length old - k - i) i new)
@@ -26,8 +26,8 @@ rest_of n ws = take (length ws - n) (drop n ws)
 abbrev pub whole_of : ℕ → List ℕ → List ℕ → List ℕ
 whole_of n ws part = take n ws ++ (part ++ drop (length ws - n) (drop n ws))
 
-pub rest-is : (n : ℕ) (ws : List ℕ) → rest_of n ws ≡ drop n ws
-rest-is n ws = let d : length (drop n ws) ≡ length ws - n = length-drop n ws in take_all (length ws - n) (drop n ws) (omega arith)
+pub rest_is : (n : ℕ) (ws : List ℕ) → rest_of n ws ≡ drop n ws
+rest_is n ws = let d : length (drop n ws) ≡ length ws - n = length-drop n ws in take_all (length ws - n) (drop n ws) (omega arith)
 
 pub whole_is : (n : ℕ) (ws part : List ℕ) → whole_of n ws part ≡ take n ws ++ part
 whole_is n ws part =
@@ -36,36 +36,36 @@ whole_is n ws part =
     ap (λ (x : List ℕ). take n ws ++ (part ++ x)) (drop_of_length-le (drop n ws) z)
     ∙ ap (λ (x : List ℕ). take n ws ++ x) (append-nil part)
 
-pub rest-length : (n : ℕ) (ws : List ℕ) → length (rest_of n ws) ≡ length ws - n
-rest-length n ws = ap length (rest-is n ws) ∙ length-drop n ws
+pub rest_length : (n : ℕ) (ws : List ℕ) → length (rest_of n ws) ≡ length ws - n
+rest_length n ws = ap length (rest_is n ws) ∙ length-drop n ws
 
-pub rest-tail : (n k : ℕ) (ws : List ℕ) → n + k ≤ length ws → tail k (rest_of n ws) ≡ tail k ws
-rest-tail n k ws l =
+pub rest_tail : (n k : ℕ) (ws : List ℕ) → n + k ≤ length ws → tail k (rest_of n ws) ≡ tail k ws
+rest_tail n k ws l =
     let d : length (drop n ws) ≡ length ws - n = length-drop n ws in
     let q : n + (length (drop n ws) - k) ≡ length ws - k = omega arith in
-    ap (tail k) (rest-is n ws)
+    ap (tail k) (rest_is n ws)
     ∙ drop-drop (length (drop n ws) - k) n ws
     ∙ ap (λ (i : ℕ). drop i ws) q
 
-append-tail : (x y : List ℕ) (k : ℕ) → k ≤ length y → tail k (x ++ y) ≡ tail k y
-append-tail x y k l =
+append_tail : (x y : List ℕ) (k : ℕ) → k ≤ length y → tail k (x ++ y) ≡ tail k y
+append_tail x y k l =
     let e : length (x ++ y) ≡ length x + length y = length-append x y in
     let q : length (x ++ y) - k ≡ length x + (length y - k) = omega arith in
     ap (λ (i : ℕ). drop i (x ++ y)) q ∙ drop-append-add x y (length y - k)
 
 -- the words that the rest kept, the whole has
-pub whole-tail : (n k : ℕ) (ws part : List ℕ) → n + k ≤ length ws → length part ≡ length (rest_of n ws) → tail k part ≡ tail k (rest_of n ws)
+pub whole_tail : (n k : ℕ) (ws part : List ℕ) → n + k ≤ length ws → length part ≡ length (rest_of n ws) → tail k part ≡ tail k (rest_of n ws)
     → tail k (whole_of n ws part) ≡ tail k ws
-whole-tail n k ws part l e q =
-    let d = rest-length n ws in
+whole_tail n k ws part l e q =
+    let d = rest_length n ws in
     ap (tail k) (whole_is n ws part)
-    ∙ append-tail (take n ws) part k (omega arith)
+    ∙ append_tail (take n ws) part k (omega arith)
     ∙ q
-    ∙ rest-tail n k ws l
+    ∙ rest_tail n k ws l
 
 pub whole_length : (n : ℕ) (ws part : List ℕ) → n ≤ length ws → length part ≡ length (rest_of n ws) → length (whole_of n ws part) ≡ length ws
 whole_length n ws part l e =
     let a : length (take n ws) ≡ n = length-take-le n ws l in
-    let d = rest-length n ws in
+    let d = rest_length n ws in
     let s : length (take n ws ++ part) ≡ length (take n ws) + length part = length-append (take n ws) part in
     ap length (whole_is n ws part) ∙ omega arith

@@ -1,11 +1,11 @@
 // Tests 6 to 12 on a term's words.
 ghost use Rattle.std.specs.Prelude.{ℕ, length, ◌≡◌, List};
-ghost use Rattle.logic.specs.Limits.{most-statement-words, most-statement-nesting};
+ghost use Rattle.logic.specs.Limits.{most_statement_words, most_statement_nesting};
 ghost use Rattle.logic.specs.Term.{Term};
-ghost use Rattle.logic.specs.Check.{check-statement};
-ghost use Rattle.words.specs.Verdict.{verdict-answer};
-ghost use Rattle.logic.specs.Result.{without-value};
-ghost use Rattle.typing.specs.Check.{ConstantsOf, Testable, typed-term, Judged};
+ghost use Rattle.logic.specs.Check.{check_statement};
+ghost use Rattle.words.specs.Verdict.{verdict_answer};
+ghost use Rattle.logic.specs.Result.{without_value};
+ghost use Rattle.typing.specs.Check.{ConstantsOf, Testable, typed_term, Judged};
 
 use crate::derive::derive;
 use logic::limit::{MOST_STATEMENT_NESTING, MOST_STATEMENT_WORDS, MOST_TYPE_WORDS};
@@ -27,7 +27,7 @@ pub fn check_term(
 ) -> Derivation
     requires { Testable sig.now table.now ws.old most deep }
     ensures { (Σ : List Term) → ConstantsOf sig.now table.now Σ
-        → Judged (typed-term Σ most deep term.now) (length term.now) ws.new result }
+        → Judged (typed_term Σ most deep term.now) (length term.now) ws.new result }
 {
     let tested = term_test(term, most, deep);
     match tested {
@@ -39,9 +39,9 @@ pub fn check_term(
 // Tests 6 to 12 of a proposition as the term Sign: its places count from 0, and a fault at the added word
 // is at place 0. That word counts for 6 and 8.
 pub fn check_statement(sig: &[u32], table: &[u32], proposition: &[u32], ws: &mut [u32]) -> Verdict
-    requires { Testable sig.now table.now ws.old most-statement-words most-statement-nesting }
+    requires { Testable sig.now table.now ws.old most_statement_words most_statement_nesting }
     ensures { (Σ : List Term) → (a : ℕ) → ConstantsOf sig.now table.now Σ
-        → verdict-answer result ≡ without-value (check-statement Σ a proposition.now) }
+        → verdict_answer result ≡ without_value (check_statement Σ a proposition.now) }
 {
     let typed = check_term(
         sig,

@@ -2,7 +2,7 @@
 use Rattle.std.specs.Prelude.{ℕ, ◌≡◌, List, [], ◌∷◌, ◌++◌, replicate}
 use Rattle.logic.specs.Result.{ok, refused}
 use Rattle.logic.specs.Term.{word}
-use Rattle.uses.specs.Uses.{uses-call}
+use Rattle.uses.specs.Uses.{uses_call}
 
 -- ---- words, by document 01's tags
 
@@ -29,25 +29,25 @@ Bind = word 15 0
 
 pub record UsesGuards : Type 0 where
   -- "how many it met, each as often as it stands", from a number on
-  pub variable : uses-call 0 (Var 0 ∷ []) ≡ ok 1
-  pub from_next : uses-call 1 (Var 0 ∷ []) ≡ ok 0
-  pub thrice : uses-call 0 (App ∷ Var 2 ∷ App ∷ Var 2 ∷ Var 0 ∷ []) ≡ ok 3
-  pub twice : uses-call 2 (App ∷ Var 2 ∷ App ∷ Var 2 ∷ Var 0 ∷ []) ≡ ok 2
+  pub variable : uses_call 0 (Var 0 ∷ []) ≡ ok 1
+  pub from_next : uses_call 1 (Var 0 ∷ []) ≡ ok 0
+  pub thrice : uses_call 0 (App ∷ Var 2 ∷ App ∷ Var 2 ∷ Var 0 ∷ []) ≡ ok 3
+  pub twice : uses_call 2 (App ∷ Var 2 ∷ App ∷ Var 2 ∷ Var 0 ∷ []) ≡ ok 2
   -- a variable that has its binder in the term is not free, and none is inside a Sign
-  pub bound : uses-call 0 (Lam ∷ S ∷ App ∷ Var 0 ∷ Var 1 ∷ []) ≡ ok 1
-  pub proof-of-bind : uses-call 0 (Bind ∷ Var 0 ∷ Var 0 ∷ []) ≡ ok 1
-  pub in-sign : uses-call 0 (App ∷ Sign 3 ∷ Var 0 ∷ Var 0 ∷ []) ≡ ok 1
+  pub bound : uses_call 0 (Lam ∷ S ∷ App ∷ Var 0 ∷ Var 1 ∷ []) ≡ ok 1
+  pub proof_of_bind : uses_call 0 (Bind ∷ Var 0 ∷ Var 0 ∷ []) ≡ ok 1
+  pub in_sign : uses_call 0 (App ∷ Sign 3 ∷ Var 0 ∷ Var 0 ∷ []) ≡ ok 1
   -- the last number that a variable may have, and those above it, also under a binder
-  pub last : uses-call 16777215 (Var 16777215 ∷ []) ≡ ok 1
-  pub past-last : uses-call 16777216 (Var 16777215 ∷ []) ≡ ok 0
-  pub far-past : uses-call 4294967295 (Var 16777215 ∷ []) ≡ ok 0
-  pub last_under : uses-call 16777214 (Lam ∷ S ∷ Var 16777215 ∷ []) ≡ ok 1
-  pub past-under : uses-call 16777215 (Lam ∷ S ∷ Var 16777215 ∷ []) ≡ ok 0
+  pub last : uses_call 16777215 (Var 16777215 ∷ []) ≡ ok 1
+  pub past_last : uses_call 16777216 (Var 16777215 ∷ []) ≡ ok 0
+  pub far_past : uses_call 4294967295 (Var 16777215 ∷ []) ≡ ok 0
+  pub last_under : uses_call 16777214 (Lam ∷ S ∷ Var 16777215 ∷ []) ≡ ok 1
+  pub past_under : uses_call 16777215 (Lam ∷ S ∷ Var 16777215 ∷ []) ≡ ok 0
   -- tests 6 to 8 come first, in this order, whatever the number
-  pub empty : uses-call 0 [] ≡ refused 6 0
-  pub too_long : uses-call 0 (replicate 2049 0) ≡ refused 6 0
-  pub missing : uses-call 0 (App ∷ Const 0 ∷ []) ≡ refused 7 2
-  pub word_after : uses-call 4294967295 (App ∷ Const 0 ∷ Const 0 ∷ Const 0 ∷ []) ≡ refused 7 3
-  pub nested-32 : uses-call 0 (replicate 31 (Sign 3) ++ (Const 0 ∷ [])) ≡ ok 0
-  pub nested-33 : uses-call 0 (replicate 32 (Sign 3) ++ (Const 0 ∷ [])) ≡ refused 8 32
-  pub words-then-nesting : uses-call 0 (replicate 32 (Sign 3) ++ (Const 0 ∷ 0 ∷ [])) ≡ refused 7 33
+  pub empty : uses_call 0 [] ≡ refused 6 0
+  pub too_long : uses_call 0 (replicate 2049 0) ≡ refused 6 0
+  pub missing : uses_call 0 (App ∷ Const 0 ∷ []) ≡ refused 7 2
+  pub word_after : uses_call 4294967295 (App ∷ Const 0 ∷ Const 0 ∷ Const 0 ∷ []) ≡ refused 7 3
+  pub nested_32 : uses_call 0 (replicate 31 (Sign 3) ++ (Const 0 ∷ [])) ≡ ok 0
+  pub nested_33 : uses_call 0 (replicate 32 (Sign 3) ++ (Const 0 ∷ [])) ≡ refused 8 32
+  pub words_then_nesting : uses_call 0 (replicate 32 (Sign 3) ++ (Const 0 ∷ 0 ∷ [])) ≡ refused 7 33

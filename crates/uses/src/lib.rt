@@ -1,6 +1,8 @@
 // For audit work: how many variables of a term stand free, from a number on.
+#![tactic(auto)]
+
 ghost use Rattle.std.specs.Prelude.{◌≡◌};
-ghost use Rattle.uses.specs.Uses.{uses-call, counted-answer};
+ghost use Rattle.uses.specs.Uses.{uses_call, counted_answer};
 
 use logic::limit::{MOST_NESTING, MOST_WORDS};
 use logic::word::PAYLOADS;
@@ -17,7 +19,7 @@ pub enum Counted {
 
 // Tests 6 to 8, then how many variables stand free that are numbered `from` or more, each as often as it stands.
 pub fn uses(term: &[u32], from: u32) -> Counted
-    ensures { counted-answer result ≡ uses-call from term.now }
+    ensures { counted_answer result ≡ uses_call from term.now }
 {
     let tested = term_test(term, MOST_WORDS, MOST_NESTING);
     if let Verdict::Refused { number, place } = tested {

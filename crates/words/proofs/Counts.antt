@@ -12,6 +12,6 @@ use Rattle.words.specs.declared.counted.Counted.TheVariants.{Count, Refused}
 pub none_written : {o : Result (List ℕ)} {m p : ℕ} (old : List ℕ) → o ≡ refused m p → WrittenAs o old old (Refused m p)
 none_written {m} {p} old e = subst (λ o. WrittenAs o old old (Refused m p)) (sym e) (record { answer = refl; output = refl })
 
-pub all-written : {o : Result (List ℕ)} {old new xs : List ℕ} {n : ℕ} → o ≡ ok xs → n ≡ length xs → new ≡ written_at old 0 xs →
+pub all_written : {o : Result (List ℕ)} {old new xs : List ℕ} {n : ℕ} → o ≡ ok xs → n ≡ length xs → new ≡ written_at old 0 xs →
     WrittenAs o old new (Count n)
-all-written {old} {new} {n} e k h = subst (λ o. WrittenAs o old new (Count n)) (sym e) (record { answer = ap ok k; output = h })
+all_written {old} {new} {n} e k h = subst (λ o. WrittenAs o old new (Count n)) (sym e) (record { answer = ap ok k; output = h })

@@ -5,9 +5,9 @@ use mathlib.Core.Path.{◌≡◌, refl, ap, ◌∙◌}
 use mathlib.Core.List.{List, [], ◌∷◌, ◌++◌, append_assoc, append-nil}
 use lib.ListN.{length, drop, get_or}
 use Rattle.logic.specs.Term.{Term, atom, var, sign, node, encode, size}
-use Rattle.logic.specs.Reading.{Plain, word-shape}
-use Rattle.logic.specs.Kind.{shape-children}
-use Rattle.logic.proofs.Words.{head, shape-first, size-pos}
+use Rattle.logic.specs.Reading.{Plain, word_shape}
+use Rattle.logic.specs.Kind.{shape_children}
+use Rattle.logic.proofs.Words.{head, shape_first, size_pos}
 use Rattle.words.specs.Place.{At}
 use Rattle.words.proofs.Places.{cons_tail, at_head}
 
@@ -29,23 +29,23 @@ pub record TermRow (ws : List ℕ) (at : ℕ) (ts : List Term) (rest : List ℕ)
   pub words : drop at ws ≡ encodes ts ++ rest
 
 -- what stands behind a term's first word, in front of others
-abbrev pub next-terms : Term → List Term → List Term
-next-terms (atom a) ts = ts
-next-terms (var n) ts = ts
-next-terms (sign n q) ts = q ∷ ts
-next-terms (node o a b) ts = a ∷ b ∷ ts
+abbrev pub next_terms : Term → List Term → List Term
+next_terms (atom a) ts = ts
+next_terms (var n) ts = ts
+next_terms (sign n q) ts = q ∷ ts
+next_terms (node o a b) ts = a ∷ b ∷ ts
 
-pub row-head : {ws : List ℕ} {at : ℕ} {t : Term} {ts : List Term} {rest : List ℕ} → TermRow ws at (t ∷ ts) rest → At ws at t
-row-head {t} {ts} {rest} h = record { plain = h.plain.0; rest = encodes ts ++ rest; words = h.words ∙ append_assoc (encode t) (encodes ts) rest }
+pub row_head : {ws : List ℕ} {at : ℕ} {t : Term} {ts : List Term} {rest : List ℕ} → TermRow ws at (t ∷ ts) rest → At ws at t
+row_head {t} {ts} {rest} h = record { plain = h.plain.0; rest = encodes ts ++ rest; words = h.words ∙ append_assoc (encode t) (encodes ts) rest }
 
 pub row_one : {ws : List ℕ} {at : ℕ} {t : Term} (h : At ws at t) → TermRow ws at (t ∷ []) h.rest
-row_one {t} h = record { plain = (h.plain, tt); words = h.words ∙ ap (λ (l : List ℕ). l ++ h.rest) (sym-nil (encode t)) }
+row_one {t} h = record { plain = (h.plain, tt); words = h.words ∙ ap (λ (l : List ℕ). l ++ h.rest) (sym_nil (encode t)) }
   where
-    sym-nil : (l : List ℕ) → l ≡ l ++ []
-    sym-nil l = cc (append-nil l)
+    sym_nil : (l : List ℕ) → l ≡ l ++ []
+    sym_nil l = cc (append-nil l)
 
 -- one word on
-pub row_next : {ws : List ℕ} {at : ℕ} {rest : List ℕ} (t : Term) (ts : List Term) → TermRow ws at (t ∷ ts) rest → TermRow ws (at + 1) (next-terms t ts) rest
+pub row_next : {ws : List ℕ} {at : ℕ} {rest : List ℕ} (t : Term) (ts : List Term) → TermRow ws at (t ∷ ts) rest → TermRow ws (at + 1) (next_terms t ts) rest
 unfolding encode Plain
 row_next {ws} {at} (atom a) ts h = record { plain = h.plain.1; words = cons_tail ws at _ _ h.words }
 row_next {ws} {at} (var n) ts h = record { plain = h.plain.1; words = cons_tail ws at _ _ h.words }
@@ -57,22 +57,22 @@ row_next {ws} {at} {rest} (node o a b) ts h = record {
 
 -- ---- a count of the terms still to be read
 
-behind-length : (t : Term) (ts : List Term) → length (next-terms t ts) ≡ length ts + shape-children (head t)
-behind-length (atom a) ts = omega arith
-behind-length (var n) ts = omega arith
-behind-length (sign n q) ts = omega arith
-behind-length (node o a b) ts = omega arith
+behind_length : (t : Term) (ts : List Term) → length (next_terms t ts) ≡ length ts + shape_children (head t)
+behind_length (atom a) ts = omega arith
+behind_length (var n) ts = omega arith
+behind_length (sign n q) ts = omega arith
+behind_length (node o a b) ts = omega arith
 
-behind-size : (t : Term) (ts : List Term) → size t + sizes ts ≡ 1 + sizes (next-terms t ts)
+behind_size : (t : Term) (ts : List Term) → size t + sizes ts ≡ 1 + sizes (next_terms t ts)
 unfolding size
-behind-size (atom a) ts = refl
-behind-size (var n) ts = refl
-behind-size (sign n q) ts = omega arith
-behind-size (node o a b) ts = omega arith
+behind_size (atom a) ts = refl
+behind_size (var n) ts = refl
+behind_size (sign n q) ts = omega arith
+behind_size (node o a b) ts = omega arith
 
 few : (ts : List Term) → length ts ≤ sizes ts
 few [] = omega arith
-few (t ∷ ts) = let h = few ts in let p = size-pos t in omega arith
+few (t ∷ ts) = let h = few ts in let p = size_pos t in omega arith
 
 -- so many terms stand in a row from a place on, and end at another
 pub record TermsLeft (ws : List ℕ) (at count end : ℕ) : Type 0 where
@@ -82,32 +82,32 @@ pub record TermsLeft (ws : List ℕ) (at count end : ℕ) : Type 0 where
   pub number : length terms ≡ count
   pub ends : at + sizes terms ≡ end
 
-pub left-start : {ws : List ℕ} {at : ℕ} {t : Term} → At ws at t → TermsLeft ws at 1 (at + size t)
-left-start {t} h = record { terms = t ∷ []; rest = h.rest; row = row_one h; number = refl; ends = omega arith }
+pub left_start : {ws : List ℕ} {at : ℕ} {t : Term} → At ws at t → TermsLeft ws at 1 (at + size t)
+left_start {t} h = record { terms = t ∷ []; rest = h.rest; row = row_one h; number = refl; ends = omega arith }
 
-pub left-few : {ws : List ℕ} {at count end : ℕ} → TermsLeft ws at count end → at + count ≤ end
-left-few l = omega (arith, few l.terms, l.number, l.ends)
+pub left_few : {ws : List ℕ} {at count end : ℕ} → TermsLeft ws at count end → at + count ≤ end
+left_few l = omega (arith, few l.terms, l.number, l.ends)
 
-pub left-none : {ws : List ℕ} {at count end : ℕ} → TermsLeft ws at count end → count ≤ 0 → at ≡ end
-left-none {ws} {at} {count} {end} l z = go l.terms l.number l.ends
+pub left_none : {ws : List ℕ} {at count end : ℕ} → TermsLeft ws at count end → count ≤ 0 → at ≡ end
+left_none {ws} {at} {count} {end} l z = go l.terms l.number l.ends
   where
     go : (ts : List Term) → length ts ≡ count → at + sizes ts ≡ end → at ≡ end
     go [] n e = omega arith
     go (t ∷ ts) n e = absurd (omega arith)
 
-pub left-next : {ws : List ℕ} {at count end : ℕ} (n : ℕ) → 0 < count → n ≡ shape-children (word-shape (get_or ws at 0)) → TermsLeft ws at count end
+pub left_next : {ws : List ℕ} {at count end : ℕ} (n : ℕ) → 0 < count → n ≡ shape_children (word_shape (get_or ws at 0)) → TermsLeft ws at count end
     → TermsLeft ws (at + 1) (count - 1 + n) end
-left-next {ws} {at} {count} {end} n p e l = go l.terms l.row l.number l.ends
+left_next {ws} {at} {count} {end} n p e l = go l.terms l.row l.number l.ends
   where
     go : (ts : List Term) → TermRow ws at ts l.rest → length ts ≡ count → at + sizes ts ≡ end → TermsLeft ws (at + 1) (count - 1 + n) end
     go [] r m s = absurd (omega arith)
     go (t ∷ ts) r m s =
-        let c : shape-children (word-shape (get_or ws at 0)) ≡ shape-children (head t) = ap (λ (w : ℕ). shape-children (word-shape w)) (at_head (row-head r))
-        ∙ ap shape-children (shape-first t r.plain.0) in
+        let c : shape_children (word_shape (get_or ws at 0)) ≡ shape_children (head t) = ap (λ (w : ℕ). shape_children (word_shape w)) (at_head (row_head r))
+        ∙ ap shape_children (shape_first t r.plain.0) in
         record {
-          terms = next-terms t ts;
+          terms = next_terms t ts;
           rest = l.rest;
           row = row_next t ts r;
-          number = omega (arith, behind-length t ts);
-          ends = omega (arith, behind-size t ts);
+          number = omega (arith, behind_length t ts);
+          ends = omega (arith, behind_size t ts);
         }

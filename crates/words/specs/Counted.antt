@@ -6,11 +6,11 @@ use Rattle.words.specs.declared.counted.Counted.{Counted}
 use Rattle.words.specs.declared.counted.Counted.TheVariants.{Count, Refused}
 
 -- number, place and value of each case
-abbrev pub counted-answer : Counted → Result ℕ
-counted-answer (Count n) = ok n
-counted-answer (Refused m p) = refused m p
+abbrev pub counted_answer : Counted → Result ℕ
+counted_answer (Count n) = ok n
+counted_answer (Refused m p) = refused m p
 
 -- the answer is how many words were written; and the whole output
 pub record WrittenAs (o : Result (List ℕ)) (old new : List ℕ) (r : Counted) : Type 0 where
-  pub answer : counted-answer r ≡ (o >>= λ xs. ok (length xs))
+  pub answer : counted_answer r ≡ (o >>= λ xs. ok (length xs))
   pub output : new ≡ after_write o old

@@ -1,8 +1,8 @@
 // Tests 6 to 8: whether words are one term within limits.
 ghost use Rattle.std.specs.Prelude.{◌≡◌};
-ghost use Rattle.logic.specs.Result.{without-value};
+ghost use Rattle.logic.specs.Result.{without_value};
 ghost use Rattle.logic.specs.Check.{term_of};
-ghost use Rattle.words.specs.Verdict.{verdict-answer};
+ghost use Rattle.words.specs.Verdict.{verdict_answer};
 
 use crate::nesting::{Nesting, nested_whole};
 use crate::read::{Parse, read_whole};
@@ -11,7 +11,7 @@ use logic::refusal::{MALFORMED, NESTING, TERM_LENGTH};
 
 // Of a term of at most `most` words, nested at most `deep`.
 pub fn term_test(words: &[u32], most: usize, deep: usize) -> Verdict
-    ensures { verdict-answer result ≡ without-value (term_of most deep words.now) }
+    ensures { verdict_answer result ≡ without_value (term_of most deep words.now) }
 {
     let len = words.len();
     if len < 1 {

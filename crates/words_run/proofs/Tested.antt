@@ -12,10 +12,10 @@ use Rattle.logic.specs.Limits.{payloads}
 use Rattle.logic.specs.Term.{Term, size}
 use Rattle.logic.specs.Reading.{read_whole}
 use Rattle.words.specs.Place.{Is}
-use Rattle.words.specs.Parsing.{parse-answer, whole-end}
+use Rattle.words.specs.Parsing.{parse_answer, whole_end}
 use Rattle.words.specs.declared.read.Parse.{Parse}
 use Rattle.words.specs.declared.read.Parse.TheVariants.{End}
-use Rattle.words.proofs.Parses.{whole-term}
+use Rattle.words.proofs.Parses.{whole_term}
 use Rattle.words.proofs.Places.{size_is}
 
 -- ws is one term of n words
@@ -25,9 +25,9 @@ pub record OneTerm (ws : List ℕ) (n : ℕ) : Type 0 where
   pub count : n ≡ size term
   pub words : length ws ≡ n
 
-pub one-term : (ws : List ℕ) {r : Parse} (n : ℕ) → parse-answer r ≡ whole-end (read_whole ws) → r ≡ End n → OneTerm ws n
-one-term ws n e q =
-    let (t, i, is, c) = whole-term ws n (sym e ∙ ap parse-answer q) in
+pub one_term : (ws : List ℕ) {r : Parse} (n : ℕ) → parse_answer r ≡ whole_end (read_whole ws) → r ≡ End n → OneTerm ws n
+one_term ws n e q =
+    let (t, i, is, c) = whole_term ws n (sym e ∙ ap parse_answer q) in
     record { term = t; is = is; count = c; words = size_is ws t is ∙ sym c }
 
 pub near : (z : ℤ) → lt_z z (negsuc (payloads - 1)) ≡ false → lt_z (pos payloads) z ≡ false → nat_abs z ≤ payloads

@@ -1,4 +1,6 @@
 // Reads, shifts and fills terms, at the edges too, and prints a line for each.
+#![tactic(auto)]
+
 ghost use Rattle.io.specs.Counts.{IsPrefixLen};
 
 use logic::word::{APP, CONSTANT_0, KIND_P, LAM, PAYLOADS, PI, PROP, SIGN_0, VARIABLE_0};

@@ -1,5 +1,7 @@
 // Makes document 01's examples, and those of document 02's requests that have landed, through the calls of the
 // register, and prints a line for each.
+#![tactic(auto)]
+
 use logic::limit::LEAST_WORKSPACE;
 use logic::word::APP;
 use sample::{

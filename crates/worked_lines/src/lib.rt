@@ -1,4 +1,6 @@
 // A call of the register and its line: what the example is, the call, and what it gives.
+#![tactic(auto)]
+
 use batch_tests::Batched;
 use logic::limit::LEAST_WORKSPACE;
 use mark_list::{MARK_LIST, MOST_MARKS};

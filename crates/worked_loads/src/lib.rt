@@ -1,4 +1,6 @@
 // For `worked`: loads of trial requests, a line for each.
+#![tactic(auto)]
+
 use load::{FRONT, NUMBERS, REQUEST_WORDS};
 use sample::rules;
 use worked_lines::{counts_line, heading, load_line, open_line, request_line, say_line};

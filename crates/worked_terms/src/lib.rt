@@ -1,4 +1,6 @@
 // For `worked`: the examples on terms. Names, the uses of binders and simplified proofs, a line for each.
+#![tactic(auto)]
+
 use logic::word::{APP, LAM, PI, PRIN, SAYS};
 use sample::{C0, C2, P, S, SIGN3, V0, longer_proof, proof};
 use worked_lines::{check_line, from_named_line, heading, simplify_line, to_named_line, uses_line};

@@ -1,4 +1,6 @@
 // For `worked`: marks in a trial register, and where there are none, a line for each.
+#![tactic(auto)]
+
 use mark_list::{MARK_LIST, MOST_MARKS};
 use records::format::{STANDING, TRIAL};
 use sample::{proof, rules, statement};

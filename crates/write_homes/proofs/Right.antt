@@ -10,24 +10,24 @@ use lib.Dec.{leb}
 use lib.ListN.{length, take}
 use lib.Seq.{length-take-le, take_all}
 use borrow.Author.Tests.{leb-true, leb-false}
-use Rattle.logic.specs.Refusals.{out-of-form}
+use Rattle.logic.specs.Refusals.{out_of_form}
 use Rattle.logic.specs.Result.{Result, ok, refused, require, ◌>>◌}
 use Rattle.decimal.specs.Decimal.{comma, feed}
 use Rattle.number_file.specs.NumberFile.{file, fields, IsFile}
-use Rattle.number_file.proofs.Grammar.{file-right}
-use Rattle.homes.specs.Homes.{most-homes, formed, joined, write-call}
-use Rattle.homes.proofs.InForm.{in-form}
-use Rattle.write_homes.specs.Printed.{home-line, home-code-line, most-list, most-table, refusal, shown, printed}
+use Rattle.number_file.proofs.Grammar.{file_right}
+use Rattle.homes.specs.Homes.{most_homes, formed, joined, write_call}
+use Rattle.homes.proofs.InForm.{in_form}
+use Rattle.write_homes.specs.Printed.{home_line, home_code_line, most_list, most_table, refusal, shown, printed}
 use Rattle.write_homes.specs.Right.{Files, PrintsRight}
-use Rattle.write_homes.proofs.Prints.{Refuses, both, there, not-formed, shown-refuses, no-list, no_table, long-list, long-table}
+use Rattle.write_homes.proofs.Prints.{Refuses, both, there, not_formed, shown_refuses, no_list, no_table, long_list, long_table}
 
 -- ---- both kinds of file: neither byte that ends a number is a digit
 
-homes-file : (bs ns : List ℕ) → (file home-line feed bs ≡ ok ns) ↔ IsFile home-line feed bs ns
-homes-file bs ns = file-right home-line feed bs ns (λ x h e. omega arith)
+homes_file : (bs ns : List ℕ) → (file home_line feed bs ≡ ok ns) ↔ IsFile home_line feed bs ns
+homes_file bs ns = file_right home_line feed bs ns (λ x h e. omega arith)
 
-surveys-file : (bs ns : List ℕ) → (file home-code-line comma bs ≡ ok ns) ↔ IsFile home-code-line comma bs ns
-surveys-file bs ns = file-right home-code-line comma bs ns (λ x h e. omega arith)
+surveys_file : (bs ns : List ℕ) → (file home_code_line comma bs ≡ ok ns) ↔ IsFile home_code_line comma bs ns
+surveys_file bs ns = file_right home_code_line comma bs ns (λ x h e. omega arith)
 
 -- ---- the bytes behind the longest file in form
 
@@ -39,60 +39,60 @@ within n bs X f g = go (leb (length bs) n) refl
     go false e = g (leb-false (length bs) n e)
 
 -- a list that is longer is refused, and so are its first bytes
-list-cut : (bs cs : List ℕ) → printed (some (take (most-list + 1) bs)) (some cs) ≡ printed (some bs) (some cs)
-list-cut bs cs =
-    within (most-list + 1) bs (printed (some (take (most-list + 1) bs)) (some cs) ≡ printed (some bs) (some cs))
-    (λ h. ap (λ (l : List ℕ). printed (some l) (some cs)) (take_all (most-list + 1) bs h))
+list_cut : (bs cs : List ℕ) → printed (some (take (most_list + 1) bs)) (some cs) ≡ printed (some bs) (some cs)
+list_cut bs cs =
+    within (most_list + 1) bs (printed (some (take (most_list + 1) bs)) (some cs) ≡ printed (some bs) (some cs))
+    (λ h. ap (λ (l : List ℕ). printed (some l) (some cs)) (take_all (most_list + 1) bs h))
     (λ h.
-    let l : most-list < length (take (most-list + 1) bs) = omega (arith, length-take-le (most-list + 1) bs (omega arith)) in
-    sym (long-list true true (take (most-list + 1) bs) cs refl refl l) ∙ long-list true true bs cs refl refl (omega arith))
+    let l : most_list < length (take (most_list + 1) bs) = omega (arith, length-take-le (most_list + 1) bs (omega arith)) in
+    sym (long_list true true (take (most_list + 1) bs) cs refl refl l) ∙ long_list true true bs cs refl refl (omega arith))
 
-table-cut : (bs cs : List ℕ) → printed (some bs) (some (take (most-table + 1) cs)) ≡ printed (some bs) (some cs)
-table-cut bs cs =
-    within (most-table + 1) cs (printed (some bs) (some (take (most-table + 1) cs)) ≡ printed (some bs) (some cs))
-    (λ h. ap (λ (l : List ℕ). printed (some bs) (some l)) (take_all (most-table + 1) cs h))
+table_cut : (bs cs : List ℕ) → printed (some bs) (some (take (most_table + 1) cs)) ≡ printed (some bs) (some cs)
+table_cut bs cs =
+    within (most_table + 1) cs (printed (some bs) (some (take (most_table + 1) cs)) ≡ printed (some bs) (some cs))
+    (λ h. ap (λ (l : List ℕ). printed (some bs) (some l)) (take_all (most_table + 1) cs h))
     (λ h.
-    let l : most-table < length (take (most-table + 1) cs) = omega (arith, length-take-le (most-table + 1) cs (omega arith)) in
-    sym (long-table true true bs (take (most-table + 1) cs) refl refl l) ∙ long-table true true bs cs refl refl (omega arith))
+    let l : most_table < length (take (most_table + 1) cs) = omega (arith, length-take-le (most_table + 1) cs (omega arith)) in
+    sym (long_table true true bs (take (most_table + 1) cs) refl refl l) ∙ long_table true true bs cs refl refl (omega arith))
 
 -- what is read of two files prints what the files print
-cut : (bs cs : List ℕ) → printed (some (take (most-list + 1) bs)) (some (take (most-table + 1) cs)) ≡ printed (some bs) (some cs)
-cut bs cs = table-cut (take (most-list + 1) bs) cs ∙ list-cut bs cs
+cut : (bs cs : List ℕ) → printed (some (take (most_list + 1) bs)) (some (take (most_table + 1) cs)) ≡ printed (some bs) (some cs)
+cut bs cs = table_cut (take (most_list + 1) bs) cs ∙ list_cut bs cs
 
 -- ---- two files of a list and a table in form print the join, and anything else the refusal
 
-write-ok : (hs t : List ℕ) → formed hs t (2 * most-homes) ≡ true → write-call hs t (2 * most-homes) ≡ ok (joined hs t)
-unfolding write-call
-write-ok hs t e = ap (λ (b : Bool). require b out-of-form 0 >> ok (joined hs t)) e
+write_ok : (hs t : List ℕ) → formed hs t (2 * most_homes) ≡ true → write_call hs t (2 * most_homes) ≡ ok (joined hs t)
+unfolding write_call
+write_ok hs t e = ap (λ (b : Bool). require b out_of_form 0 >> ok (joined hs t)) e
 
-prints-join : (bs cs hs t : List ℕ) → Files bs cs hs t → printed (some bs) (some cs) ≡ home-code-line ++ fields comma feed (joined hs t)
+prints_join : (bs cs hs t : List ℕ) → Files bs cs hs t → printed (some bs) (some cs) ≡ home_code_line ++ fields comma feed (joined hs t)
 unfolding shown
-prints-join bs cs hs t f =
+prints_join bs cs hs t f =
     there true true bs cs refl refl
-    ∙ ap₂ (λ (o q : Result (List ℕ)). shown (both o q)) ((homes-file bs hs).1 f.homes) ((surveys-file cs t).1 f.surveys)
-    ∙ ap shown (write-ok hs t ((in-form hs t (2 * most-homes)).1 f.form))
+    ∙ ap₂ (λ (o q : Result (List ℕ)). shown (both o q)) ((homes_file bs hs).1 f.homes) ((surveys_file cs t).1 f.surveys)
+    ∙ ap shown (write_ok hs t ((in_form hs t (2 * most_homes)).1 f.form))
 
-join-refuses : (o q : Result (List ℕ)) → ((hs t : List ℕ) → o ≡ ok hs → q ≡ ok t → formed hs t (2 * most-homes) ≡ true → ⊥) → Refuses (both o q)
-join-refuses (ok hs) (ok t) n = not-formed hs t (n hs t refl refl)
-join-refuses (ok hs) (refused m p) n = tt
-join-refuses (refused m p) q n = tt
+join_refuses : (o q : Result (List ℕ)) → ((hs t : List ℕ) → o ≡ ok hs → q ≡ ok t → formed hs t (2 * most_homes) ≡ true → ⊥) → Refuses (both o q)
+join_refuses (ok hs) (ok t) n = not_formed hs t (n hs t refl refl)
+join_refuses (ok hs) (refused m p) n = tt
+join_refuses (refused m p) q n = tt
 
 -- two files that are there and are not of that kind
-prints-refusal : (bs cs : List ℕ) → ((hs t : List ℕ) → Files bs cs hs t → ⊥) → printed (some bs) (some cs) ≡ refusal
-prints-refusal bs cs n =
+prints_refusal : (bs cs : List ℕ) → ((hs t : List ℕ) → Files bs cs hs t → ⊥) → printed (some bs) (some cs) ≡ refusal
+prints_refusal bs cs n =
     there true true bs cs refl refl
-    ∙ sym (shown-refuses (both (file home-line feed bs) (file home-code-line comma cs))
-    (join-refuses (file home-line feed bs) (file home-code-line comma cs)
-    (λ hs t x y e. n hs t (record { homes = (homes-file bs hs).0 x; surveys = (surveys-file cs t).0 y; form = (in-form hs t (2 * most-homes)).0 e }))))
+    ∙ sym (shown_refuses (both (file home_line feed bs) (file home_code_line comma cs))
+    (join_refuses (file home_line feed bs) (file home_code_line comma cs)
+    (λ hs t x y e. n hs t (record { homes = (homes_file bs hs).0 x; surveys = (surveys_file cs t).0 y; form = (in_form hs t (2 * most_homes)).0 e }))))
 
 -- a file that is not there
-no-homes : (g : Option (List ℕ)) → printed none g ≡ refusal
-no-homes none = sym (no-list false false [] [] refl)
-no-homes (some cs) = sym (no-list false true [] cs refl)
+no_homes : (g : Option (List ℕ)) → printed none g ≡ refusal
+no_homes none = sym (no_list false false [] [] refl)
+no_homes (some cs) = sym (no_list false true [] cs refl)
 
-no-surveys : (f : Option (List ℕ)) → printed f none ≡ refusal
-no-surveys none = sym (no_table false false [] [] refl)
-no-surveys (some bs) = sym (no_table true false bs [] refl)
+no_surveys : (f : Option (List ℕ)) → printed f none ≡ refusal
+no_surveys none = sym (no_table false false [] [] refl)
+no_surveys (some bs) = sym (no_table true false bs [] refl)
 
-pub prints-right : PrintsRight
-prints-right = record { prints = prints-join; refuses = prints-refusal; no-homes = no-homes; no-surveys = no-surveys; cut = cut }
+pub prints_right : PrintsRight
+prints_right = record { prints = prints_join; refuses = prints_refusal; no_homes = no_homes; no_surveys = no_surveys; cut = cut }

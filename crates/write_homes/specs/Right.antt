@@ -3,22 +3,22 @@ use Rattle.std.specs.Prelude.{◌+◌, ◌*◌, ◌≡◌, List, ◌++◌, ℕ, 
 use Rattle.std.proofs.Math.Option.{Option, some, none}
 use Rattle.decimal.specs.Decimal.{comma, feed}
 use Rattle.number_file.specs.NumberFile.{fields, IsFile}
-use Rattle.homes.specs.Homes.{most-homes, joined}
+use Rattle.homes.specs.Homes.{most_homes, joined}
 use Rattle.homes.specs.Right.{InForm}
-use Rattle.write_homes.specs.Printed.{home-line, home-code-line, most-list, most-table, refusal, printed}
+use Rattle.write_homes.specs.Printed.{home_line, home_code_line, most_list, most_table, refusal, printed}
 
 -- these bytes are the files of a list hs and a table t in form
 pub record Files (bs cs hs t : List ℕ) : Type 0 where
-  pub homes : IsFile home-line feed bs hs
-  pub surveys : IsFile home-code-line comma cs t
-  pub form : InForm hs t (2 * most-homes)
+  pub homes : IsFile home_line feed bs hs
+  pub surveys : IsFile home_code_line comma cs t
+  pub form : InForm hs t (2 * most_homes)
 
 pub record PrintsRight : Type 0 where
   -- such files print each home with its code, and all others the refusal
-  pub prints : (bs cs hs t : List ℕ) → Files bs cs hs t → printed (some bs) (some cs) ≡ home-code-line ++ fields comma feed (joined hs t)
+  pub prints : (bs cs hs t : List ℕ) → Files bs cs hs t → printed (some bs) (some cs) ≡ home_code_line ++ fields comma feed (joined hs t)
   pub refuses : (bs cs : List ℕ) → ((hs t : List ℕ) → Files bs cs hs t → ⊥) → printed (some bs) (some cs) ≡ refusal
   -- "no file"
-  pub no-homes : (g : Option (List ℕ)) → printed none g ≡ refusal
-  pub no-surveys : (f : Option (List ℕ)) → printed f none ≡ refusal
+  pub no_homes : (g : Option (List ℕ)) → printed none g ≡ refusal
+  pub no_surveys : (f : Option (List ℕ)) → printed f none ≡ refusal
   -- files of any length: the program reads one byte more than the longest file in form has, and those bytes decide
-  pub cut : (bs cs : List ℕ) → printed (some (take (most-list + 1) bs)) (some (take (most-table + 1) cs)) ≡ printed (some bs) (some cs)
+  pub cut : (bs cs : List ℕ) → printed (some (take (most_list + 1) bs)) (some (take (most_table + 1) cs)) ≡ printed (some bs) (some cs)

@@ -1,4 +1,6 @@
 // Prints each home of a list with its survey code, from the files `homes` and `surveys` in the folder where it runs.
+#![tactic(auto)]
+
 pub mod print;
 
 ghost use Rattle.std.specs.Prelude.{◌≤◌, length};

@@ -1,8 +1,8 @@
 // What is printed: the writing step on two files' bytes.
 ghost use Rattle.std.specs.Prelude.{◌+◌, ◌*◌, ◌≤◌, ◌≡◌, length};
 ghost use Rattle.decimal.specs.Decimal.{Put};
-ghost use Rattle.homes.specs.Homes.{most-homes, write-call};
-ghost use Rattle.write_homes.specs.Printed.{most-list, most-table, output-room, given, refusal, shown, printed};
+ghost use Rattle.homes.specs.Homes.{most_homes, write_call};
+ghost use Rattle.write_homes.specs.Printed.{most_list, most_table, output_room, given, refusal, shown, printed};
 
 use decimal::{NUMBER_BYTES, put};
 use homes::{MOST_HOMES, MOST_ROWS, write};
@@ -24,44 +24,44 @@ const ROOM: usize = 10 + NUMBER_BYTES * (2 * MOST_HOMES);
 
 // One byte more than the longest files have.
 pub fn list_bytes() -> [u8; MOST_LIST + 1]
-    ensures { most-list + 1 ≡ length result }
+    ensures { most_list + 1 ≡ length result }
 {
     [0; MOST_LIST + 1]
 }
 
 pub fn table_bytes() -> [u8; MOST_TABLE + 1]
-    ensures { most-table + 1 ≡ length result }
+    ensures { most_table + 1 ≡ length result }
 {
     [0; MOST_TABLE + 1]
 }
 
 pub fn output() -> [u8; ROOM]
-    ensures { output-room ≡ length result }
+    ensures { output_room ≡ length result }
 {
     [0; ROOM]
 }
 
 fn list_words() -> [u32; LIST_NUMBERS]
-    ensures { most-list ≤ 2 * length result }
+    ensures { most_list ≤ 2 * length result }
 {
     [0; LIST_NUMBERS]
 }
 
 fn table_words() -> [u32; TABLE_NUMBERS]
-    ensures { most-table ≤ 2 * length result }
+    ensures { most_table ≤ 2 * length result }
 {
     [0; TABLE_NUMBERS]
 }
 
 fn output_words() -> [u32; OUTPUT_WORDS]
-    ensures { 2 * most-homes ≡ length result }
+    ensures { 2 * most_homes ≡ length result }
 {
     [0; OUTPUT_WORDS]
 }
 
 // Puts the refusal.
 fn refuse(out: &mut [u8]) -> usize
-    requires { output-room ≤ length out.old }
+    requires { output_room ≤ length out.old }
     ensures { Put out.old 0 refusal out.new result }
 {
     put(b"refused,21\n", out, 0)
@@ -69,9 +69,9 @@ fn refuse(out: &mut [u8]) -> usize
 
 // The writing step on a list and a table, printed.
 fn print_words(homes: &[u32], surveys: &[u32], out: &mut [u8]) -> usize
-    requires { output-room ≤ length out.old }
+    requires { output_room ≤ length out.old }
     ensures { Put out.old 0
-        (shown (write-call homes.now surveys.now (2 * most-homes))) out.new result }
+        (shown (write_call homes.now surveys.now (2 * most_homes))) out.new result }
 {
     let mut words = output_words();
     let number = write(homes, surveys, &mut words);
@@ -91,7 +91,7 @@ pub fn print(
     table: &[u8],
     out: &mut [u8],
 ) -> usize
-    requires { output-room ≤ length out.old }
+    requires { output_room ≤ length out.old }
     ensures { Put out.old 0
         (printed (given list_there list.now) (given table_there table.now)) out.new result }
 {

@@ -2,7 +2,7 @@
 use borrow.Author.Rules.{rules}
 use Rattle.register.specs.Calls.{Lent}
 use Rattle.shared_tests.specs.Shared.{lent_of}
-use Rattle.batch.proofs.GrantsInTurn.{batched-kept, batch-left, granted-all}
+use Rattle.batch.proofs.GrantsInTurn.{batched_kept, batch_left, granted_all}
 use Rattle.batch.proofs.batch.Statement.{statement}
 use Rattle.batch.proofs.batch.Tie as tie
 
@@ -39,14 +39,14 @@ returns : tie.Need-returns
 returns c =
     let t = c.before.before.before.before in
     let s = start t in
-    batched-kept (lent-here s) s.args.register.now s.args.day s.args.items.now t.testable.result t.testable.ensures _ _ _
+    batched_kept (lent-here s) s.args.register.now s.args.day s.args.items.now t.testable.result t.testable.ensures _ _ _
     c.enum-told2.given.1
 
 grant-items-requires : tie.Need-grant-items-requires
 grant-items-requires c κs =
     let t = tested c in
     let s = start t in
-    granted-all (lent-here s) s.args.register.now s.args.day s.args.items.now t.testable.result t.testable.ensures
+    granted_all (lent-here s) s.args.register.now s.args.day s.args.items.now t.testable.result t.testable.ensures
     c.before.enum_told.given.1
 
 same-length-3 : tie.Need-same-length-3
@@ -60,7 +60,7 @@ returns-2 c =
     let g = c.before.before in
     let t = tested g.before in
     let s = start t in
-    batch-left (lent-here s) s.args.register.now s.args.day s.args.items.now t.testable.result t.testable.ensures
+    batch_left (lent-here s) s.args.register.now s.args.day s.args.items.now t.testable.result t.testable.ensures
     g.before.before.enum_told.given.1 _ g.grant-items.ensures
 
 pub batch-spec : {M : Type 1} → statement M

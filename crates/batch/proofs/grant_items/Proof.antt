@@ -5,8 +5,8 @@ use mathlib.Core.Path.{◌≡◌, refl, ◌∙◌}
 use native.Mathlib.Omega.{arith}
 use lib.ListN.{length}
 use borrow.Author.Rules.{rules}
-use Rattle.item_list.proofs.ItemPlaces.{WholeAt, whole-there, cut-there}
-use Rattle.batch.proofs.GrantsInTurn.{Granting, granting-start, granting-next, room-left, grants-ended, grants-not-cut}
+use Rattle.item_list.proofs.ItemPlaces.{WholeAt, whole_there, cut_there}
+use Rattle.batch.proofs.GrantsInTurn.{Granting, granting_start, granting_next, room_left, grants_ended, grants_not_cut}
 use Rattle.batch.proofs.grant_items.Statement.{statement}
 use Rattle.batch.proofs.grant_items.Tie as tie
 
@@ -36,12 +36,12 @@ whole c =
     let n = found c in
     let at-loop = (turn n).before in
     let a = (start at-loop).args in
-    whole-there a.day a.items.now at-loop.loop.at n.item-at.result (n.item-at.ensures a.day) _ c.before.before.item.given.1
+    whole_there a.day a.items.now at-loop.loop.at n.item_at.result (n.item_at.ensures a.day) _ c.before.before.item.given.1
 
 -- ---- the needs
 
 loop-holds : tie.Need-loop-init invariant-loop decreases-loop
-loop-holds c = (refl, granting-start c.before.before.requires)
+loop-holds c = (refl, granting_start c.before.before.requires)
 
 item-at-requires : tie.Need-item-at-requires invariant-loop decreases-loop
 item-at-requires c κs = c.before.loop.invariant.1.within
@@ -60,14 +60,14 @@ returns c =
     let n = c.before.before in
     let t = turn n in
     let a = (start t.before).args in
-    λ l new g. absurd (grants-not-cut t.before.loop.inv.1
-    (cut-there a.day a.items.now t.before.loop.at n.item-at.result (n.item-at.ensures a.day) t.loop-test.taken
+    λ l new g. absurd (grants_not_cut t.before.loop.inv.1
+    (cut_there a.day a.items.now t.before.loop.at n.item_at.result (n.item_at.ensures a.day) t.loop-test.taken
     c.enum_told.given.1))
 
 grant-item-requires : tie.Need-grant-item-requires invariant-loop decreases-loop
 grant-item-requires c κs =
     let w = whole c in
-    ((w.head, w.within), room-left (turn (found c)).before.loop.inv.1 w)
+    ((w.head, w.within), room_left (turn (found c)).before.loop.inv.1 w)
 
 loop-less : tie.Need-loop-smaller invariant-loop decreases-loop
 loop-less c =
@@ -80,13 +80,13 @@ loop-again c =
     let e = c.before.before in
     let r = e.before in
     let i = (turn (found r)).before.loop.inv in
-    (e.grant-item.auto.0 ∙ i.0, granting-next i.1 (whole r) e.grant-item.ensures)
+    (e.grant-item.auto.0 ∙ i.0, granting_next i.1 (whole r) e.grant-item.ensures)
 
 same-length-2 : tie.Need-same-length-2 invariant-loop decreases-loop
 same-length-2 c = c.before.loop.invariant.0
 
 returns-2 : tie.Need-returns-2 invariant-loop decreases-loop
-returns-2 c = grants-ended c.before.loop.invariant.1 c.loop-test.false
+returns-2 c = grants_ended c.before.loop.invariant.1 c.loop-test.false
 
 pub grant-items-spec : {M : Type 1} → statement M
 grant-items-spec =

@@ -8,20 +8,20 @@ use lib.ListN.{length}
 use borrow.Author.Rules.{rules}
 use Rattle.logic.specs.Result.{ok}
 use Rattle.logic.specs.Term.{Term}
-use Rattle.words.specs.Verdict.{verdict-answer}
+use Rattle.words.specs.Verdict.{verdict_answer}
 use Rattle.typing.specs.Check.{ConstantsOf}
-use Rattle.register.specs.Records.{Content, register-content, entry-extra, item-head}
-use Rattle.register.specs.Calls.{Lent, view, outline-of, request-own}
-use Rattle.register.specs.BatchTests.{view-behind}
-use Rattle.records.proofs.Items.{records-there}
+use Rattle.register.specs.Records.{Content, register_content, entry_extra, item_head}
+use Rattle.register.specs.Calls.{Lent, view, outline_of, request_own}
+use Rattle.register.specs.BatchTests.{view_behind}
+use Rattle.records.proofs.Items.{records_there}
 use Rattle.search.specs.declared.statement.Source.{Source}
 use Rattle.search.specs.declared.view.View.{View}
-use Rattle.search.proofs.Search.{header-there}
+use Rattle.search.proofs.Search.{header_there}
 use Rattle.buckets.specs.Buckets.{Buckets}
 use Rattle.shared_tests.specs.Shared.{lent_of}
-use Rattle.item_list.specs.Items.{ask-at}
-use Rattle.item_list.proofs.ItemPlaces.{WholeAt, whole-there, cut-there}
-use Rattle.batch_tests.proofs.TestsInTurn.{Given, Testing, testing-start, seen-so, tests-ended, tests-cut, item-refused-so, sum_fits, testing-next}
+use Rattle.item_list.specs.Items.{ask_at}
+use Rattle.item_list.proofs.ItemPlaces.{WholeAt, whole_there, cut_there}
+use Rattle.batch_tests.proofs.TestsInTurn.{Given, Testing, testing_start, seen_so, tests_ended, tests_cut, item_refused_so, sum_fits, testing_next}
 use Rattle.batch_tests.proofs.test_items.Statement.{statement}
 use Rattle.batch_tests.proofs.test_items.Tie as tie
 
@@ -64,7 +64,7 @@ whole c =
     let n = found c in
     let at-loop = (turn n).before in
     let a = (start (viewed at-loop)).args in
-    whole-there a.day a.items.now at-loop.loop.at n.item-at.result (n.item-at.ensures a.day) _ c.before.before.item.given.1
+    whole_there a.day a.items.now at-loop.loop.at n.item_at.result (n.item_at.ensures a.day) _ c.before.before.item.given.1
 
 -- the answers to its own tests
 answered : (c : tie.After-test-item invariant-loop decreases-loop) →
@@ -73,24 +73,24 @@ answered : (c : tie.After-test-item invariant-loop decreases-loop) →
     let T = at-loop.loop.inv.1 in
     let a = s.args in
     (l : Lent) (Σ : List Term) (d : Content) → l.n ≡ (given s).n → ConstantsOf (given s).sig (given s).table Σ →
-    register-content a.register.now ≡ ok d →
-    verdict-answer c.test-item.result ≡
-    request-own (ask-at a.day a.items.now at-loop.loop.at c.before.before.before.item.given.0.0)
-    (view-behind T.ks a.day (view l (outline-of a.register.now) d Σ))
+    register_content a.register.now ≡ ok d →
+    verdict_answer c.test-item.result ≡
+    request_own (ask_at a.day a.items.now at-loop.loop.at c.before.before.before.item.given.0.0)
+    (view_behind T.ks a.day (view l (outline_of a.register.now) d Σ))
 answered c l Σ d n C r =
     let at-loop = (turn (found c.before)).before in
     let v = viewed at-loop in
     let s = start v in
     let T = at-loop.loop.inv.1 in
     c.test-item.ensures l Σ d T.ks n C
-    (seen-so (given s) s.args.register.now s.args.day s.args.items.now T v.view_of.result v.view_of.ensures d r)
+    (seen_so (given s) s.args.register.now s.args.day s.args.items.now T v.view_of.result v.view_of.ensures d r)
 
 -- the item passed: the sum with its words fits, and the loop goes on behind it
 record Goes (c : tie.After-enum-told2 invariant-loop decreases-loop) : Type 0 where
   pub fits :
       let r = (tested c).before in
       let at-loop = (turn (found r)).before in
-      at-loop.loop.used + (r.before.before.item.given.0.0 - at-loop.loop.at - item-head) + entry-extra ≤
+      at-loop.loop.used + (r.before.before.item.given.0.0 - at-loop.loop.at - item_head) + entry_extra ≤
       length (start (viewed at-loop)).args.register.now
   pub next :
       let r = (tested c).before in
@@ -98,7 +98,7 @@ record Goes (c : tie.After-enum-told2 invariant-loop decreases-loop) : Type 0 wh
       let s = start (viewed at-loop) in
       let end = r.before.before.item.given.0.0 in
       Testing (given s) s.args.register.now s.args.day s.args.items.now
-      (at-loop.loop.used + (end - at-loop.loop.at - item-head) + entry-extra) s.args.day end (at-loop.loop.index + 1)
+      (at-loop.loop.used + (end - at-loop.loop.at - item_head) + entry_extra) s.args.day end (at-loop.loop.index + 1)
 
 goes : (c : tie.After-enum-told2 invariant-loop decreases-loop) → Goes c
 goes c =
@@ -110,11 +110,11 @@ goes c =
     let q = s.pre in
     let l = lent_of a.sig.now a.n a.ws.now in
     let T = at-loop.loop.inv.1 in
-    let f = ap verdict-answer c.enum-told2.given.1 in
+    let f = ap verdict_answer c.enum-told2.given.1 in
     record {
-      fits = sum_fits (given s) a.register.now a.day a.items.now T (whole r) (verdict-answer t.test-item.result) (answered t)
+      fits = sum_fits (given s) a.register.now a.day a.items.now T (whole r) (verdict_answer t.test-item.result) (answered t)
           f l q.Σ q.content refl q.constants q.reads q.operations;
-      next = testing-next (given s) a.register.now a.day a.items.now T (whole r) (verdict-answer t.test-item.result) (answered t)
+      next = testing_next (given s) a.register.now a.day a.items.now T (whole r) (verdict_answer t.test-item.result) (answered t)
           f l q.Σ q.content refl q.constants q.reads q.operations;
     }
 
@@ -123,7 +123,7 @@ goes c =
 view-of-requires : tie.Need-view-of-requires invariant-loop decreases-loop
 view-of-requires c κs =
     let s = (let known = c.before.before.before in known.before.before.before) in
-    header-there s.args.register.now s.pre.reads
+    header_there s.args.register.now s.pre.reads
 
 loop-holds : tie.Need-loop-init invariant-loop decreases-loop
 loop-holds c =
@@ -131,7 +131,7 @@ loop-holds c =
     let s = start v in
     let reg = s.args.register.now in
     let e = v.view_of.ensures in
-    let b = testing-start (given s) reg s.args.day s.args.items.now (records-there reg s.pre.content s.pre.reads).within in (
+    let b = testing_start (given s) reg s.args.day s.args.items.now (records_there reg s.pre.content s.pre.reads).within in (
       refl,
       subst₂ (λ (u : ℕ) (d : ℕ). Testing (given s) reg s.args.day s.args.items.now u d 0 0)
           (sym (ap (λ (x : View). x.used) e)) (sym (ap (λ (x : View). x.latest) e)) b,
@@ -156,8 +156,8 @@ returns c =
     let at-loop = t.before in
     let s = start (viewed at-loop) in
     let a = s.args in
-    tests-cut (given s) a.register.now a.day a.items.now at-loop.loop.inv.1
-    (cut-there a.day a.items.now at-loop.loop.at n.item-at.result (n.item-at.ensures a.day) t.loop-test.taken
+    tests_cut (given s) a.register.now a.day a.items.now at-loop.loop.inv.1
+    (cut_there a.day a.items.now at-loop.loop.at n.item_at.result (n.item_at.ensures a.day) t.loop-test.taken
     c.enum_told.given.1)
 
 test-item-requires : tie.Need-test-item-requires invariant-loop decreases-loop
@@ -172,7 +172,7 @@ test-item-requires c κs =
       record {
         content = q.content;
         requests = i.1.ks;
-        seen = seen-so (given s) s.args.register.now s.args.day s.args.items.now i.1 v.view_of.result v.view_of.ensures
+        seen = seen_so (given s) s.args.register.now s.args.day s.args.items.now i.1 v.view_of.result v.view_of.ensures
             q.content q.reads;
         bucketed = subst (λ (x : Source). Buckets x s.args.register.now s.args.buckets.now)
             (sym (ap (λ (x : View). x.source) v.view_of.ensures)) q.bucketed;
@@ -197,8 +197,8 @@ returns-2 c =
     let at-loop = (turn (found t.before)).before in
     let s = start (viewed at-loop) in
     let a = s.args in
-    item-refused-so (given s) a.register.now a.day a.items.now at-loop.loop.inv.1 (whole t.before)
-    (verdict-answer t.test-item.result) (answered t) _ _ (ap verdict-answer c.before.verdict.given.1)
+    item_refused_so (given s) a.register.now a.day a.items.now at-loop.loop.inv.1 (whole t.before)
+    (verdict_answer t.test-item.result) (answered t) _ _ (ap verdict_answer c.before.verdict.given.1)
 
 enum-told-2 : tie.Need-enum-told-2 invariant-loop decreases-loop
 enum-told-2 c = search rules
@@ -210,15 +210,15 @@ sub-used-2 : tie.Need-overflow-sub-used-2 invariant-loop decreases-loop
 sub-used-2 c = let w = whole (tested c).before in omega (arith, w.head)
 
 add-used : tie.Need-overflow-add-used invariant-loop decreases-loop
-add-used c = let s = start (viewed (turn (found (tested c).before)).before) in omega (arith, (goes c).ranges, s.pre.not-longer)
+add-used c = let s = start (viewed (turn (found (tested c).before)).before) in omega (arith, (goes c).ranges, s.pre.not_longer)
 
 add-used-2 : tie.Need-overflow-add-used-2 invariant-loop decreases-loop
-add-used-2 c = let s = start (viewed (turn (found (tested c).before)).before) in omega (arith, (goes c).ranges, s.pre.not-longer)
+add-used-2 c = let s = start (viewed (turn (found (tested c).before)).before) in omega (arith, (goes c).ranges, s.pre.not_longer)
 
 add-index : tie.Need-overflow-add-index invariant-loop decreases-loop
 add-index c =
     let at-loop = (turn (found (tested c).before)).before in
-    omega (arith, at-loop.loop.inv.1.counted, (goes c).ranges, (start (viewed at-loop)).pre.not-longer)
+    omega (arith, at-loop.loop.inv.1.counted, (goes c).ranges, (start (viewed at-loop)).pre.not_longer)
 
 loop-less : tie.Need-loop-smaller invariant-loop decreases-loop
 loop-less c = let r = (tested c).before in let w = whole r in omega (arith, w.head, w.within, (turn (found r)).loop-test.taken)
@@ -234,7 +234,7 @@ same-length-3 c = c.before.loop.invariant.0
 returns-3 : tie.Need-returns-3 invariant-loop decreases-loop
 returns-3 c =
     let s = start (viewed c.before) in
-    tests-ended (given s) s.args.register.now s.args.day s.args.items.now c.before.loop.invariant.1 c.loop-test.false
+    tests_ended (given s) s.args.register.now s.args.day s.args.items.now c.before.loop.invariant.1 c.loop-test.false
 
 pub test-items-spec : {M : Type 1} → statement M
 test-items-spec =

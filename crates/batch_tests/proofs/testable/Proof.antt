@@ -5,8 +5,8 @@ use borrow.Author.Tests.{not-true, not-false}
 use borrow.Author.Rules.{rules}
 use Rattle.register.specs.Calls.{Lent}
 use Rattle.shared_tests.specs.Shared.{lent_of}
-use Rattle.item_list.proofs.ItemPlaces.{whole-there, cut-there}
-use Rattle.batch_tests.proofs.TestsInTurn.{some_words, too-many-refused, empty-tested, cut-first, whole-first}
+use Rattle.item_list.proofs.ItemPlaces.{whole_there, cut_there}
+use Rattle.batch_tests.proofs.TestsInTurn.{some_words, too_many_refused, empty_tested, cut_first, whole_first}
 use Rattle.batch_tests.proofs.testable.Statement.{statement}
 use Rattle.batch_tests.proofs.testable.Tie as tie
 
@@ -32,7 +32,7 @@ returns : tie.Need-returns
 returns c =
     let f = c.before in
     let s = start f in
-    too-many-refused (lent-here s) s.args.register.now s.args.day s.args.items.now
+    too_many_refused (lent-here s) s.args.register.now s.args.day s.args.items.now
     (sym (not-true _ c.if1.true) ∙ f.few.ensures s.args.day)
 
 idle-requires : tie.Need-idle-requires
@@ -47,7 +47,7 @@ returns-2 c =
     let t = i.before.before in
     let f = t.before.before in
     let s = start f in
-    i.idle.ensures ∙ empty-tested (lent-here s) s.args.register.now s.args.day s.args.items.now
+    i.idle.ensures ∙ empty_tested (lent-here s) s.args.register.now s.args.day s.args.items.now
     (sym (not-false _ t.before.if1.false) ∙ f.few.ensures s.args.day) t.if2.true
 
 item-at-requires : tie.Need-item-at-requires
@@ -65,9 +65,9 @@ returns-3 c =
     let f = counted n in
     let s = start f in
     let a = s.args in
-    cut-first (lent-here s) a.register.now a.day a.items.now
+    cut_first (lent-here s) a.register.now a.day a.items.now
     (sym (not-false _ n.before.before.if1.false) ∙ f.few.ensures a.day)
-    (cut-there a.day a.items.now 0 n.item-at.result (n.item-at.ensures a.day)
+    (cut_there a.day a.items.now 0 n.item_at.result (n.item_at.ensures a.day)
     (some_words a.items.now n.before.if2.false) c.enum-told2.given.1)
 
 tried-requires : tie.Need-tried-requires
@@ -84,9 +84,9 @@ returns-4 c =
     let f = counted n in
     let s = start f in
     let a = s.args in
-    r.tried.ensures ∙ whole-first (lent-here s) a.register.now a.day a.items.now
+    r.tried.ensures ∙ whole_first (lent-here s) a.register.now a.day a.items.now
     (sym (not-false _ n.before.before.if1.false) ∙ f.few.ensures a.day)
-    (whole-there a.day a.items.now 0 n.item-at.result (n.item-at.ensures a.day) _ told.enum_told.given.1).is
+    (whole_there a.day a.items.now 0 n.item_at.result (n.item_at.ensures a.day) _ told.enum_told.given.1).is
 
 pub testable-spec : {M : Type 1} → statement M
 testable-spec =

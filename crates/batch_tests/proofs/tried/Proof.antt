@@ -7,13 +7,13 @@ use borrow.Author.Rules.{rules}
 use Rattle.logic.specs.Result.{Result, ok}
 use Rattle.register.specs.Calls.{Lent, View}
 use Rattle.register.specs.Batch.{Batched, items}
-use Rattle.register.specs.BatchTests.{items-own, at-start}
+use Rattle.register.specs.BatchTests.{items_own, at_start}
 use Rattle.search.specs.declared.statement.Source.{Source}
-use Rattle.search.proofs.Search.{reads-register}
-use Rattle.buckets.specs.Buckets.{bucket-count, Buckets}
-use Rattle.buckets.proofs.Buckets.{empty-buckets}
+use Rattle.search.proofs.Search.{reads_register}
+use Rattle.buckets.specs.Buckets.{bucket_count, Buckets}
+use Rattle.buckets.proofs.Buckets.{empty_buckets}
 use Rattle.shared_tests.specs.Shared.{lent_of}
-use Rattle.shared_tests.proofs.OwnTests.{PassedSo, not-prepared, passed-so, table-within}
+use Rattle.shared_tests.proofs.OwnTests.{PassedSo, not_prepared, passed_so, table_within}
 use Rattle.batch_tests.proofs.tried.Statement.{statement}
 use Rattle.batch_tests.proofs.tried.Tie as tie
 
@@ -40,7 +40,7 @@ lent-here s = lent_of s.args.sig.now s.args.n s.args.ws.now
 
 -- the tests of the items, on what the shared ones found
 abbrev own : tie.Start → View → Result Batched
-own s v = ok (items-own s.args.day 0 [] (items s.args.day s.args.items.now) v)
+own s v = ok (items_own s.args.day 0 [] (items s.args.day s.args.items.now) v)
 
 -- the shared tests passed
 passed : (c : tie.After-known-told2) →
@@ -51,7 +51,7 @@ passed : (c : tie.After-known-told2) →
 passed c =
     let at-prepare = prepared c in
     let s = start at-prepare in
-    passed-so (lent-here s) s.args.register.now at-prepare.prepare.last.1.1.1.0 at-prepare.prepare.result
+    passed_so (lent-here s) s.args.register.now at-prepare.prepare.last.1.1.1.0 at-prepare.prepare.result
     (own s) at-prepare.prepare.ensures _ c.before.ready2.given.1
 
 -- ---- the needs
@@ -69,7 +69,7 @@ enum-known-ready-2 : tie.Need-enum-known-ready-2
 enum-known-ready-2 c = search rules
 
 in-register-requires : tie.Need-in-register-requires
-in-register-requires c κs = (passed c).lent-so.not-shorter
+in-register-requires c κs = (passed c).lent_so.not_shorter
 
 slice-aggregate-fill : tie.Need-slice-aggregate-fill
 slice-aggregate-fill c = search rules
@@ -80,22 +80,22 @@ fill-requires c κs =
     let told = sourced c.before in
     let reg = (start (prepared told)).args.register.now in
     let S = passed told in (
-      record { found = S.content.records; reads = reads-register reg from.ensures S.reads },
+      record { found = S.content.records; reads = reads_register reg from.ensures S.reads },
       ap (λ (x : Source). x.rules) from.ensures,
-      empty-buckets from.result reg bucket-count (omega arith),
+      empty_buckets from.result reg bucket_count (omega arith),
     )
 
 array-share-prefix-table : tie.Need-array-share-prefix-table
 array-share-prefix-table c =
     let told = sourced (filled c.before) in
     let S = passed told in
-    table-within (lent-here (start (prepared told))) _ _ S.Σ S.counted S.constants
+    table_within (lent-here (start (prepared told))) _ _ S.Σ S.counted S.constants
 
 slice-aggregate-test-items : tie.Need-slice-aggregate-test-items
 slice-aggregate-test-items c =
     let told = sourced (filled c.before.before) in
     let S = passed told in
-    sym (length-take-le _ _ (table-within (lent-here (start (prepared told))) _ _ S.Σ S.counted S.constants))
+    sym (length-take-le _ _ (table_within (lent-here (start (prepared told))) _ _ S.Σ S.counted S.constants))
 
 slice-aggregate-test-items-2 : tie.Need-slice-aggregate-test-items-2
 slice-aggregate-test-items-2 c = search rules
@@ -111,11 +111,11 @@ test-items-requires c κs =
       content = S.content;
       reads = S.reads;
       bucketed = subst (λ (x : Source). Buckets x reg f.fill.new.1.1.0) from.in-register.ensures f.fill.ensures;
-      not-longer = S.lent-so.not-longer;
+      not_longer = S.lent_so.not_longer;
       Σ = S.Σ;
       constants = S.constants;
-      operations = S.lent-so.operations;
-      workspace = omega (arith, S.lent-so.workspace, (prepared told).prepare.kept.1.1.1.1.0);
+      operations = S.lent_so.operations;
+      workspace = omega (arith, S.lent_so.workspace, (prepared told).prepare.kept.1.1.1.1.0);
     }
 
 same_length : tie.Need-same-length
@@ -125,7 +125,7 @@ returns : tie.Need-returns
 returns c =
     let at-prepare = (let at-ws = c.before.before.before.before in at-ws.before.before) in
     let s = start at-prepare in
-    sym (ap at-start (not-prepared (lent-here s) s.args.register.now _ at-prepare.prepare.result (own s) at-prepare.prepare.ensures
+    sym (ap at_start (not_prepared (lent-here s) s.args.register.now _ at-prepare.prepare.result (own s) at-prepare.prepare.ensures
     _ _ c.before.ready.given.1))
 
 same-length-2 : tie.Need-same-length-2
@@ -137,7 +137,7 @@ returns-2 c =
     let told = sourced (filled r.before.before.before.before.before) in
     let s = start (prepared told) in
     let S = passed told in
-    r.test-items.ensures (lent-here s) S.Σ S.content refl S.constants S.reads ∙ sym (ap at-start S.is)
+    r.test-items.ensures (lent-here s) S.Σ S.content refl S.constants S.reads ∙ sym (ap at_start S.is)
 
 pub tried-spec : {M : Type 1} → statement M
 tried-spec =

@@ -8,33 +8,33 @@ use lib.Seq.{length-take-le}
 use lib.ListN.{length, take, drop, get_or}
 use borrow.Author.Tests.{not-false}
 use borrow.Author.Rules.{rules}
-use Rattle.logic.specs.Limits.{most-type-words}
+use Rattle.logic.specs.Limits.{most_type_words}
 use Rattle.logic.specs.Term.{Term, size}
-use Rattle.logic.proofs.Words.{size-pos}
+use Rattle.logic.proofs.Words.{size_pos}
 use Rattle.words.specs.Place.{At}
-use Rattle.words.proofs.Places.{at-end}
-use Rattle.moves.proofs.Shifts.{zero-shifted}
-use Rattle.rules.specs.Scope.{entry-head}
-use Rattle.rules.specs.Form.{front-words}
+use Rattle.words.proofs.Places.{at_end}
+use Rattle.moves.proofs.Shifts.{zero_shifted}
+use Rattle.rules.specs.Scope.{entry_head}
+use Rattle.rules.specs.Form.{front_words}
 use Rattle.bind_result.specs.BindResult.{Binds}
-use Rattle.bind_result.proofs.Results.{total-is, kept-size, said-is, kept-inside, bind-short, bind-differs, said_at, bind-used, bind-unused}
+use Rattle.bind_result.proofs.Results.{total_is, kept_size, said_is, kept_inside, bind_short, bind_differs, said_at, bind_used, bind_unused}
 use Rattle.bind_result.proofs.bind.Statement.{statement}
 use Rattle.bind_result.proofs.bind.Tie as tie
 
 -- the word Says and the principal's words
 abbrev said : tie.Start → ℕ
 said s =
-    get_or s.args.ws.now (length s.args.ws.now - s.args.used) 0 - entry-head - get_or s.args.ws.now
+    get_or s.args.ws.now (length s.args.ws.now - s.args.used) 0 - entry_head - get_or s.args.ws.now
     (length s.args.ws.now - s.args.used + 2) 0
 
 -- the numbers of the entry that `requires` brought
 record Sizes (len used total kept p q : ℕ) : Type 0 where
-  total-is : total ≡ entry-head + (1 + p + q)
-  kept-is : kept ≡ q
-  small : 1 + p + q ≤ most-type-words
-  inside : len - used + entry-head + (1 + p) ≤ len
+  total_is : total ≡ entry_head + (1 + p + q)
+  kept_is : kept ≡ q
+  small : 1 + p + q ≤ most_type_words
+  inside : len - used + entry_head + (1 + p) ≤ len
   some : 1 ≤ p
-  room : used + front-words ≤ len
+  room : used + front_words ≤ len
 
 sizes : (s : tie.Start) →
     Sizes (length s.args.ws.now) s.args.used (get_or s.args.ws.now (length s.args.ws.now - s.args.used) 0)
@@ -43,11 +43,11 @@ sizes s =
     let a = s.args in
     let p = s.requires in
     record {
-      total-is = total-is a.ws.now a.used a.at a.m a.end p.p p.q p.B p.binds;
-      kept-is = kept-size a.ws.now a.used a.at a.m a.end p.p p.q p.B p.binds;
-      small = p.small-kept;
-      inside = kept-inside a.ws.now a.used a.at a.m a.end p.p p.q p.B p.binds;
-      some = size-pos p.p;
+      total_is = total_is a.ws.now a.used a.at a.m a.end p.p p.q p.B p.binds;
+      kept_is = kept_size a.ws.now a.used a.at a.m a.end p.p p.q p.B p.binds;
+      small = p.small_kept;
+      inside = kept_inside a.ws.now a.used a.at a.m a.end p.p p.q p.B p.binds;
+      some = size_pos p.p;
       room = p.room;
     }
 
@@ -71,11 +71,11 @@ before-test c = c.before.before.before.before
 
 -- the words compared are the same
 agree : (c : tie.Else2) →
-    let at-start = before-held (before-else2 c) in
-    let a = at-start.args in
-    take (said at-start) a.ws.now ≡ take
-    (length a.ws.now - a.used + entry-head + said at-start - (length a.ws.now - a.used + entry-head))
-    (drop (length a.ws.now - a.used + entry-head) a.ws.now)
+    let at_start = before-held (before-else2 c) in
+    let a = at_start.args in
+    take (said at_start) a.ws.now ≡ take
+    (length a.ws.now - a.used + entry_head + said at_start - (length a.ws.now - a.used + entry_head))
+    (drop (length a.ws.now - a.used + entry_head) a.ws.now)
 agree c = c.before.same.ensures.0 (not-false c.before.same.result c.if2.false)
 
 sub-head : tie.Need-overflow-sub-head
@@ -111,7 +111,7 @@ sub-said-2 c = let z = sizes c.before.before.before in omega arith
 returns : tie.Need-returns
 returns c =
     let a = c.before.before.before.before.args in
-    λ p q B j. bind-short a.ws.now a.used a.at a.m a.end p q B j _ (said-is a.ws.now a.used a.at a.m a.end p q B j)
+    λ p q B j. bind_short a.ws.now a.used a.at a.m a.end p q B j _ (said_is a.ws.now a.used a.at a.m a.end p q B j)
     c.if1.true
 
 add_start : tie.Need-overflow-add-start
@@ -119,8 +119,8 @@ add_start c = search rules
 
 slice-aggregate-same : tie.Need-slice-aggregate-same
 slice-aggregate-same c =
-    let at-start = before-held c.before in
-    let z = sizes at-start in sym (length-take-le (said at-start) at-start.args.ws.now (omega arith))
+    let at_start = before-held c.before in
+    let z = sizes at_start in sym (length-take-le (said at_start) at_start.args.ws.now (omega arith))
 
 add_same : tie.Need-overflow-add-same
 add_same c = search rules
@@ -136,8 +136,8 @@ part-same-start c = search rules
 
 part-same-end : tie.Need-slice-bounds-same-end
 part-same-end c =
-    let at-start = before-held c.before in
-    let z = sizes at-start in omega (arith, z)
+    let at_start = before-held c.before in
+    let z = sizes at_start in omega (arith, z)
 
 same-requires : tie.Need-same-requires
 same-requires c κs = search rules
@@ -147,38 +147,38 @@ same_length c = search rules
 
 returns-2 : tie.Need-returns-2
 returns-2 c =
-    let at-start = before-held c.before.before.before.before in
-    let a = at-start.args in
-    λ p q B j. bind-differs a.ws.now a.used a.at a.m a.end p q B j _ (said-is a.ws.now a.used a.at a.m a.end p q B j)
+    let at_start = before-held c.before.before.before.before in
+    let a = at_start.args in
+    λ p q B j. bind_differs a.ws.now a.used a.at a.m a.end p q B j _ (said_is a.ws.now a.used a.at a.m a.end p q B j)
     c.before.same.result c.if2.true c.before.same.ensures.1
 
 -- the body's type stands at the front, and after the shift by 0 too
 standing : (c : tie.Else2) → let a = (before-held (before-else2 c)).args in (p q B : Term) → Binds a.ws.now a.used a.m p q B → At a.ws.now 0 B
 standing c p q B j =
     let a = (before-held (before-else2 c)).args in
-    said_at a.ws.now a.used a.at a.m a.end p q B j _ (said-is a.ws.now a.used a.at a.m a.end p q B j) (agree c)
+    said_at a.ws.now a.used a.at a.m a.end p q B j _ (said_is a.ws.now a.used a.at a.m a.end p q B j) (agree c)
 
 still-standing : (c : tie.After-shift-within) → let a = (before-held (before-else2 (before-counted c))).args in
     (p q B : Term) → Binds a.ws.now a.used a.m p q B → At c.shift-within.new.0 0 B
 still-standing c p q B j =
     let h = standing (before-counted c) p q B j in
-    subst (λ (v : List ℕ). At v 0 B) (sym (zero-shifted h (c.shift-within.ensures B h))) h
+    subst (λ (v : List ℕ). At v 0 B) (sym (zero_shifted h (c.shift-within.ensures B h))) h
 
 shift-within-requires : tie.Need-shift-within-requires
 shift-within-requires c κs =
     let s = before-held (before-else2 c.before) in
     let p = s.pre in
     let h = standing c.before p.p p.q p.B p.binds in
-    let k = p.binds.type-words in
-    record { term = p.B; here = h; fits = omega (arith, at-end h); deep = omega (arith, k, p.small); near = omega arith }
+    let k = p.binds.type_words in
+    record { term = p.B; here = h; fits = omega (arith, at_end h); deep = omega (arith, k, p.small); near = omega arith }
 
 shift-within-requires-2 : tie.Need-shift-within-requires-2
 shift-within-requires-2 c κs =
     let d = c.before.before.before in
     let p = (before-held (before-else2 (before-counted d))).requires in
     let h = still-standing d p.p p.q p.B p.binds in
-    let k = p.binds.type-words in
-    record { term = p.B; here = h; fits = omega (arith, at-end h); deep = omega (arith, k, p.small); near = omega arith }
+    let k = p.binds.type_words in
+    record { term = p.B; here = h; fits = omega (arith, at_end h); deep = omega (arith, k, p.small); near = omega arith }
 
 same-length-2 : tie.Need-same-length-2
 same-length-2 c = search rules
@@ -190,7 +190,7 @@ returns-3 c =
     let at-else2 = before-counted counted in
     let s = before-held (before-else2 at-else2) in
     let a = s.args in
-    λ p q B j. bind-used a.ws.now a.used a.at a.m a.end p q B j _ (said-is a.ws.now a.used a.at a.m a.end p q B j)
+    λ p q B j. bind_used a.ws.now a.used a.at a.m a.end p q B j _ (said_is a.ws.now a.used a.at a.m a.end p q B j)
     (agree at-else2) (counted.shift-within.ensures B (standing at-else2 p q B j)) (lowered.shift-within2.ensures B (still-standing counted p q B j))
     s.pre.small c.if3.true
 
@@ -204,7 +204,7 @@ returns-4 c =
     let at-else2 = before-counted counted in
     let s = before-held (before-else2 at-else2) in
     let a = s.args in
-    λ p q B j. bind-unused a.ws.now a.used a.at a.m a.end p q B j _ (said-is a.ws.now a.used a.at a.m a.end p q B j)
+    λ p q B j. bind_unused a.ws.now a.used a.at a.m a.end p q B j _ (said_is a.ws.now a.used a.at a.m a.end p q B j)
     (agree at-else2) (counted.shift-within.ensures B (standing at-else2 p q B j)) (lowered.shift-within2.ensures B (still-standing counted p q B j))
     s.pre.small c.if3.false
 

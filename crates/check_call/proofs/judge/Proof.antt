@@ -1,11 +1,11 @@
 -- Tests 1 to 12 and 14 in turn: the shared ones, the term's type, its Signs.
 use mathlib.Core.Path.{sym}
 use lib.Seq.{length-take-le}
-use Rattle.register.specs.Calls.{Lent, check-own}
-use Rattle.search.proofs.Search.{reads-register, header-there}
+use Rattle.register.specs.Calls.{Lent, check_own}
+use Rattle.search.proofs.Search.{reads_register, header_there}
 use Rattle.shared_tests.specs.Shared.{lent_of}
-use Rattle.shared_tests.proofs.OwnTests.{PassedSo, passed-so, TypedSo, table-within}
-use Rattle.check_call.proofs.Checks.{check-not-prepared, check-not-typed, check-type, check-term-found, check-missed, check-held}
+use Rattle.shared_tests.proofs.OwnTests.{PassedSo, passed_so, TypedSo, table_within}
+use Rattle.check_call.proofs.Checks.{check_not_prepared, check_not_typed, check_type, check_term_found, check_missed, check_held}
 use native.Mathlib.Omega.{arith}
 use borrow.Author.Rules.{rules}
 use Rattle.check_call.proofs.judge.Statement.{statement}
@@ -39,37 +39,37 @@ before-first-miss c = c.before.before
 -- the shared tests passed
 passed : (c : tie.After-ready2) →
     let at-prepare = before-ready2 c in
-    let at-start = before-table (before-prepare at-prepare) in
-    PassedSo (lent-here at-start) at-start.args.register.now at-prepare.prepare.last.1.1.1.0 at-prepare.prepare.result
-    (check-own at-start.args.day at-start.args.term.now) at-prepare.prepare.ensures c.ready2.given.0.0
+    let at_start = before-table (before-prepare at-prepare) in
+    PassedSo (lent-here at_start) at_start.args.register.now at-prepare.prepare.last.1.1.1.0 at-prepare.prepare.result
+    (check_own at_start.args.day at_start.args.term.now) at-prepare.prepare.ensures c.ready2.given.0.0
 passed c =
     let at-prepare = before-ready2 c in
-    let at-start = before-table (before-prepare at-prepare) in
-    passed-so (lent-here at-start) at-start.args.register.now at-prepare.prepare.last.1.1.1.0 at-prepare.prepare.result
-    (check-own at-start.args.day at-start.args.term.now) at-prepare.prepare.ensures c.ready2.given.0.0 c.ready2.given.1
+    let at_start = before-table (before-prepare at-prepare) in
+    passed_so (lent-here at_start) at_start.args.register.now at-prepare.prepare.last.1.1.1.0 at-prepare.prepare.result
+    (check_own at_start.args.day at_start.args.term.now) at-prepare.prepare.ensures c.ready2.given.0.0 c.ready2.given.1
 
 -- the term has a type
 typed : (c : tie.After-enum-told) →
     let at-check-term = c.before.before.before.before in
     let at-ready2 = before-check-term at-check-term in
     let at-prepare = before-ready2 at-ready2 in
-    let at-start = before-table (before-prepare at-prepare) in
-    let a = at-start.args in
+    let at_start = before-table (before-prepare at-prepare) in
+    let a = at_start.args in
     TypedSo (passed at-ready2).Σ a.term.now
-    (check-type (lent-here at-start) a.register.now at-prepare.prepare.last.1.1.1.0 a.day a.term.now at-prepare.prepare.result
-    at-prepare.prepare.ensures at-ready2.ready2.given.0.0 (passed at-ready2) at-check-term.check-term.new.1.1.1.1.1.0
-    at-check-term.check-term.result _ _ (at-check-term.check-term.ensures (passed at-ready2).Σ (passed at-ready2).constants)
+    (check_type (lent-here at_start) a.register.now at-prepare.prepare.last.1.1.1.0 a.day a.term.now at-prepare.prepare.result
+    at-prepare.prepare.ensures at-ready2.ready2.given.0.0 (passed at-ready2) at-check-term.check_term.new.1.1.1.1.1.0
+    at-check-term.check_term.result _ _ (at-check-term.check_term.ensures (passed at-ready2).Σ (passed at-ready2).constants)
     c.enum_told.given.1).type
 typed c =
     let at-check-term = c.before.before.before.before in
     let at-ready2 = before-check-term at-check-term in
     let at-prepare = before-ready2 at-ready2 in
-    let at-start = before-table (before-prepare at-prepare) in
-    check-term-found (lent-here at-start) at-start.args.register.now at-prepare.prepare.last.1.1.1.0
-    at-start.args.day at-start.args.term.now
+    let at_start = before-table (before-prepare at-prepare) in
+    check_term_found (lent-here at_start) at_start.args.register.now at-prepare.prepare.last.1.1.1.0
+    at_start.args.day at_start.args.term.now
     at-prepare.prepare.result at-prepare.prepare.ensures at-ready2.ready2.given.0.0 (passed at-ready2)
-    at-check-term.check-term.new.1.1.1.1.1.0 at-check-term.check-term.result _ _
-    (at-check-term.check-term.ensures (passed at-ready2).Σ (passed at-ready2).constants) c.enum_told.given.1
+    at-check-term.check_term.new.1.1.1.1.1.0 at-check-term.check_term.result _ _
+    (at-check-term.check_term.ensures (passed at-ready2).Σ (passed at-ready2).constants) c.enum_told.given.1
 
 slice-aggregate-prepare : tie.Need-slice-aggregate-prepare
 slice-aggregate-prepare c = search rules
@@ -87,19 +87,19 @@ array-share-prefix-table : tie.Need-array-share-prefix-table
 array-share-prefix-table c =
     let at-ready2 = c.before in
     let at-prepare = before-ready2 at-ready2 in
-    let at-start = before-table (before-prepare at-prepare) in
+    let at_start = before-table (before-prepare at-prepare) in
     let S = passed at-ready2 in
-    table-within (lent-here at-start) at-prepare.prepare.last.1.1.1.0 at-ready2.ready2.given.0.0 S.Σ S.counted S.constants
+    table_within (lent-here at_start) at-prepare.prepare.last.1.1.1.0 at-ready2.ready2.given.0.0 S.Σ S.counted S.constants
 
 slice-aggregate-check-term : tie.Need-slice-aggregate-check-term
 slice-aggregate-check-term c =
     let at-ready2 = c.before.before in
     let at-prepare = before-ready2 at-ready2 in
-    let at-start = before-table (before-prepare at-prepare) in
+    let at_start = before-table (before-prepare at-prepare) in
     let S = passed at-ready2 in
     sym
     (length-take-le at-ready2.ready2.given.0.0 at-prepare.prepare.last.1.1.1.0
-    (table-within (lent-here at-start) at-prepare.prepare.last.1.1.1.0 at-ready2.ready2.given.0.0 S.Σ S.counted S.constants))
+    (table_within (lent-here at_start) at-prepare.prepare.last.1.1.1.0 at-ready2.ready2.given.0.0 S.Σ S.counted S.constants))
 
 check-term-requires : tie.Need-check-term-requires
 check-term-requires c κs =
@@ -109,7 +109,7 @@ check-term-requires c κs =
     record {
       Σ = S.Σ;
       constants = S.constants;
-      workspace = omega (arith, S.lent-so.workspace, at-prepare.prepare.kept.1.1.1.1.0);
+      workspace = omega (arith, S.lent_so.workspace, at-prepare.prepare.kept.1.1.1.1.0);
       words = omega arith;
       nesting = omega arith;
     }
@@ -128,27 +128,27 @@ returns c =
     let at-check-term = c.before.before.before.before in
     let at-ready2 = before-check-term at-check-term in
     let at-prepare = before-ready2 at-ready2 in
-    let at-start = before-table (before-prepare at-prepare) in
+    let at_start = before-table (before-prepare at-prepare) in
     let S = passed at-ready2 in
-    check-not-typed (lent-here at-start) at-start.args.register.now at-prepare.prepare.last.1.1.1.0
-    at-start.args.day at-start.args.term.now
+    check_not_typed (lent-here at_start) at_start.args.register.now at-prepare.prepare.last.1.1.1.0
+    at_start.args.day at_start.args.term.now
     at-prepare.prepare.result at-prepare.prepare.ensures at-ready2.ready2.given.0.0 (passed at-ready2) _
-    at-check-term.check-term.result _ _ (at-check-term.check-term.ensures S.Σ S.constants) c.enum-told2.given.1
+    at-check-term.check_term.result _ _ (at-check-term.check_term.ensures S.Σ S.constants) c.enum-told2.given.1
 
 in-register-requires : tie.Need-in-register-requires
 in-register-requires c κs =
     let at-ready2 = before-check-term c.before.before.before.before in
-    let at-start = before-table (before-prepare (before-ready2 at-ready2)) in
-    header-there at-start.args.register.now (passed at-ready2).reads
+    let at_start = before-table (before-prepare (before-ready2 at-ready2)) in
+    header_there at_start.args.register.now (passed at-ready2).reads
 
 first-miss-requires : tie.Need-first-miss-requires
 first-miss-requires c κs =
     let at_told = c.before in
     let at-ready2 = before-check-term at_told.before.before.before.before in
-    let at-start = before-table (before-prepare (before-ready2 at-ready2)) in
+    let at_start = before-table (before-prepare (before-ready2 at-ready2)) in
     let S = passed at-ready2 in
     let T = typed at_told in (
-      record { found = S.content.records; reads = reads-register at-start.args.register.now c.in-register.ensures S.reads },
+      record { found = S.content.records; reads = reads_register at_start.args.register.now c.in-register.ensures S.reads },
       record { term = T.term; is = T.term_is },
     )
 
@@ -164,9 +164,9 @@ same-length-2 c = search rules
 returns-2 : tie.Need-returns-2
 returns-2 c =
     let at-prepare = before-table2 c.before.before.before.before.before in
-    let at-start = before-table (before-prepare at-prepare) in
-    check-not-prepared (lent-here at-start) at-start.args.register.now at-prepare.prepare.last.1.1.1.0
-    at-start.args.day at-start.args.term.now
+    let at_start = before-table (before-prepare at-prepare) in
+    check_not_prepared (lent-here at_start) at_start.args.register.now at-prepare.prepare.last.1.1.1.0
+    at_start.args.day at_start.args.term.now
     at-prepare.prepare.result at-prepare.prepare.ensures _ _ _ c.before.ready.given.1
 
 same-length-3 : tie.Need-same-length-3
@@ -180,15 +180,15 @@ returns-3 c =
     let at-check-term = at_told.before.before.before.before in
     let at-ready2 = before-check-term at-check-term in
     let at-prepare = before-ready2 at-ready2 in
-    let at-start = before-table (before-prepare at-prepare) in
+    let at_start = before-table (before-prepare at-prepare) in
     let S = passed at-ready2 in
     let T = typed at_told in
-    let there = reads-register at-start.args.register.now at-first-miss.before.in-register.ensures S.reads in
-    check-missed (lent-here at-start) at-start.args.register.now at-prepare.prepare.last.1.1.1.0
-    at-start.args.day at-start.args.term.now
+    let there = reads_register at_start.args.register.now at-first-miss.before.in-register.ensures S.reads in
+    check_missed (lent-here at_start) at_start.args.register.now at-prepare.prepare.last.1.1.1.0
+    at_start.args.day at_start.args.term.now
     at-prepare.prepare.result at-prepare.prepare.ensures at-ready2.ready2.given.0.0 (passed at-ready2) _
-    at-check-term.check-term.result _ _ (at-check-term.check-term.ensures S.Σ S.constants) at_told.enum_told.given.1
-    at-first-miss.first-miss.result _ _ (at-first-miss.first-miss.ensures S.content.records T.term there T.term_is) c.before.miss.given.1
+    at-check-term.check_term.result _ _ (at-check-term.check_term.ensures S.Σ S.constants) at_told.enum_told.given.1
+    at-first-miss.first_miss.result _ _ (at-first-miss.first_miss.ensures S.content.records T.term there T.term_is) c.before.miss.given.1
 
 same-length-4 : tie.Need-same-length-4
 same-length-4 c = search rules
@@ -201,15 +201,15 @@ returns-4 c =
     let at-check-term = at_told.before.before.before.before in
     let at-ready2 = before-check-term at-check-term in
     let at-prepare = before-ready2 at-ready2 in
-    let at-start = before-table (before-prepare at-prepare) in
+    let at_start = before-table (before-prepare at-prepare) in
     let S = passed at-ready2 in
     let T = typed at_told in
-    let there = reads-register at-start.args.register.now at-first-miss.before.in-register.ensures S.reads in
-    check-held (lent-here at-start) at-start.args.register.now at-prepare.prepare.last.1.1.1.0
-    at-start.args.day at-start.args.term.now
+    let there = reads_register at_start.args.register.now at-first-miss.before.in-register.ensures S.reads in
+    check_held (lent-here at_start) at_start.args.register.now at-prepare.prepare.last.1.1.1.0
+    at_start.args.day at_start.args.term.now
     at-prepare.prepare.result at-prepare.prepare.ensures at-ready2.ready2.given.0.0 (passed at-ready2) _
-    at-check-term.check-term.result _ _ (at-check-term.check-term.ensures S.Σ S.constants) at_told.enum_told.given.1
-    at-first-miss.first-miss.result (at-first-miss.first-miss.ensures S.content.records T.term there T.term_is) c.enum-told3.given.1
+    at-check-term.check_term.result _ _ (at-check-term.check_term.ensures S.Σ S.constants) at_told.enum_told.given.1
+    at-first-miss.first_miss.result (at-first-miss.first_miss.ensures S.content.records T.term there T.term_is) c.enum-told3.given.1
 
 pub judge-spec : {M : Type 1} → statement M
 judge-spec =

@@ -4,11 +4,11 @@ use mathlib.Core.Path.{◌≡◌, sym, ◌∙◌}
 use lib.ListN.{length}
 use borrow.Author.Tests.{not-true, not-false}
 use borrow.Author.Rules.{rules}
-use Rattle.register.specs.Records.{Ask, ask-of}
+use Rattle.register.specs.Records.{Ask, ask_of}
 use Rattle.register.specs.Calls.{Lent}
 use Rattle.shared_tests.specs.Shared.{lent_of}
 use Rattle.homes.specs.Homes.{formed}
-use Rattle.extract.proofs.Extracts.{extract-not-formed, extract-not-granted, extract-granted}
+use Rattle.extract.proofs.Extracts.{extract_not_formed, extract_not_granted, extract_granted}
 use Rattle.extract.proofs.extract.Statement.{statement}
 use Rattle.extract.proofs.extract.Tie as tie
 
@@ -38,12 +38,12 @@ abbrev lent-here : tie.Start → Lent
 lent-here s = lent_of s.args.sig.now s.args.n s.args.ws.now
 
 abbrev asked-for : tie.Start → Ask
-asked-for s = ask-of s.args.operation s.args.extract s.args.delivery s.args.day s.args.proof.now
+asked-for s = ask_of s.args.operation s.args.extract s.args.delivery s.args.day s.args.proof.now
 
 -- behind the test, the form holds
-in-form : (c : tie.After-request) →
+in_form : (c : tie.After-request) →
     formed (start (tested c)).args.homes.now (start (tested c)).args.surveys.now (length (start (tested c)).args.out.now) ≡ true
-in-form c = sym (tested c).well-formed-2.ensures ∙ not-false _ c.before.before.before.if1.false
+in_form c = sym (tested c).well-formed-2.ensures ∙ not-false _ c.before.before.before.if1.false
 
 -- ---- the needs
 
@@ -54,7 +54,7 @@ returns : tie.Need-returns
 returns c =
     let s = start c.before in
     let a = s.args in
-    extract-not-formed (lent-here s) a.register.now (asked-for s) a.homes.now a.surveys.now a.out.now
+    extract_not_formed (lent-here s) a.register.now (asked-for s) a.homes.now a.surveys.now a.out.now
     (sym c.before.well-formed-2.ensures ∙ not-true _ c.if1.true)
 
 request-requires : tie.Need-request-requires
@@ -77,11 +77,11 @@ returns-2 c =
     let r = asked c.before.before in
     let s = start (tested r) in
     let a = s.args in
-    extract-not-granted (lent-here s) a.register.now (asked-for s) a.homes.now a.surveys.now a.out.now
-    (in-form r) _ r.request.result r.request.ensures _ _ c.enum-told2.given.1
+    extract_not_granted (lent-here s) a.register.now (asked-for s) a.homes.now a.surveys.now a.out.now
+    (in_form r) _ r.request.result r.request.ensures _ _ c.enum-told2.given.1
 
 join-requires : tie.Need-join-requires
-join-requires c κs = in-form (asked (matched c))
+join-requires c κs = in_form (asked (matched c))
 
 same-length-3 : tie.Need-same-length-3
 same-length-3 c = search rules
@@ -99,8 +99,8 @@ returns-3 c =
     let r = asked (matched g) in
     let s = start (tested r) in
     let a = s.args in
-    extract-granted (lent-here s) a.register.now (asked-for s) a.homes.now a.surveys.now a.out.now
-    (in-form r) _ r.request.result r.request.ensures _ g.before.enum_told.given.1 j.join.ensures
+    extract_granted (lent-here s) a.register.now (asked-for s) a.homes.now a.surveys.now a.out.now
+    (in_form r) _ r.request.result r.request.ensures _ g.before.enum_told.given.1 j.join.ensures
 
 pub extract-spec : {M : Type 1} → statement M
 extract-spec =

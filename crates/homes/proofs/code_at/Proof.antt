@@ -1,6 +1,6 @@
 -- The code of the first row from j on, by its two tests.
 use borrow.Author.Rules.{rules}
-use Rattle.homes.proofs.Walks.{no-row-here, row_other, row-own}
+use Rattle.homes.proofs.Walks.{no_row_here, row_other, row_own}
 use Rattle.homes.proofs.code_at.Statement.{statement}
 use Rattle.homes.proofs.code_at.Tie as tie
 
@@ -8,7 +8,7 @@ add-if1 : tie.Need-overflow-add-if1
 add-if1 c = search rules
 
 returns : tie.Need-returns
-returns c = let a = c.before.args in no-row-here a.surveys.now a.home a.j c.if1.true
+returns c = let a = c.before.args in no_row_here a.surveys.now a.home a.j c.if1.true
 
 mul-if2 : tie.Need-overflow-mul-if2
 mul-if2 c = search rules
@@ -30,7 +30,7 @@ shared-slice-read-result c = search rules
 
 returns-3 : tie.Need-returns-3
 returns-3 c = let a = c.before.before.before.before.args in
-    row-own a.surveys.now a.home a.j c.before.before.before.if1.false c.before.if2.false
+    row_own a.surveys.now a.home a.j c.before.before.before.if1.false c.before.if2.false
 
 pub code-at-spec : {M : Type 1} → statement M
 code-at-spec =

@@ -5,7 +5,7 @@ use mathlib.Core.Path.{◌≡◌}
 use lib.ListN.{length, drop}
 use borrow.Author.Rules.{rules}
 use Rattle.homes.specs.Homes.{rising}
-use Rattle.homes.proofs.Forms.{rising-start, home-falls, home-rises, homes-end}
+use Rattle.homes.proofs.Forms.{rising_start, home_falls, home_rises, homes_end}
 use Rattle.homes.proofs.homes_rise.Statement.{statement}
 use Rattle.homes.proofs.homes_rise.Tie as tie
 
@@ -16,7 +16,7 @@ abbrev decreases-loop : tie.decreases-loop
 decreases-loop homes least₀ i₀ least i = length homes - i
 
 loop-holds : tie.Need-loop-init invariant-loop decreases-loop
-loop-holds c = (omega arith, rising-start c.args.homes.now)
+loop-holds c = (omega arith, rising_start c.args.homes.now)
 
 mul-home : tie.Need-overflow-mul-home invariant-loop decreases-loop
 mul-home c = search rules
@@ -31,7 +31,7 @@ returns : tie.Need-returns invariant-loop decreases-loop
 returns c =
     let h = c.before.before.before in
     let l = h.loop in
-    home-falls h.before.args.homes.now l.least l.i l.invariant.1 (omega arith) c.if1.true
+    home_falls h.before.args.homes.now l.least l.i l.invariant.1 (omega arith) c.if1.true
 
 add-least : tie.Need-overflow-add-least invariant-loop decreases-loop
 add-least c = omega (arith, c.before.shared-slice-known.given c.before.before.before.loop.i)
@@ -46,12 +46,12 @@ loop-again : tie.Need-loop-preserved invariant-loop decreases-loop
 loop-again c =
     let h = c.before.before.before in
     let l = h.loop in
-    (omega arith, home-rises h.before.args.homes.now l.least l.i l.invariant.1 (omega arith) c.if1.false)
+    (omega arith, home_rises h.before.args.homes.now l.least l.i l.invariant.1 (omega arith) c.if1.false)
 
 returns-2 : tie.Need-returns-2 invariant-loop decreases-loop
 returns-2 c =
     let l = c.before.loop in
-    homes-end c.before.before.args.homes.now l.least l.i l.invariant.1 (omega arith)
+    homes_end c.before.before.args.homes.now l.least l.i l.invariant.1 (omega arith)
 
 pub homes-rise-spec : {M : Type 1} → statement M
 homes-rise-spec =

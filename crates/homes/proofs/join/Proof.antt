@@ -7,9 +7,9 @@ use mathlib.Core.Bool.{true}
 use mathlib.Core.Path.{◌≡◌, refl, sym, ◌∙◌}
 use lib.ListN.{length, drop, get_or, set, length-set}
 use borrow.Author.Rules.{rules}
-use Rattle.homes.specs.Homes.{home-passed}
-use Rattle.homes.proofs.Joins.{Formed, formed-facts}
-use Rattle.homes.proofs.Walks.{Walking, walking_start, walking-over, walking-write, walking-end, lower-inside}
+use Rattle.homes.specs.Homes.{home_passed}
+use Rattle.homes.proofs.Joins.{Formed, formed_facts}
+use Rattle.homes.proofs.Walks.{Walking, walking_start, walking_over, walking_write, walking_end, lower_inside}
 use Rattle.homes.proofs.join.Statement.{statement}
 use Rattle.homes.proofs.join.Tie as tie
 
@@ -33,18 +33,18 @@ turn c = c.before.before.before
 
 -- the output has two words a home
 room : (s : tie.Start invariant-loop decreases-loop) → Formed s.args.homes.now s.args.surveys.now (length s.args.out.now)
-room s = formed-facts s.args.homes.now s.args.surveys.now (length s.args.out.now) s.requires
+room s = formed_facts s.args.homes.now s.args.surveys.now (length s.args.out.now) s.requires
 
 -- the home of this turn
 abbrev home : tie.At-loop invariant-loop decreases-loop → ℕ
 home l = get_or (loop-start l).args.homes.now l.loop.k 0
 
 over : (c : tie.Then1 invariant-loop decreases-loop) →
-    home-passed (home (turn c.before)) (drop (turn c.before).loop.j (loop-start (turn c.before)).args.surveys.now) ≡ true
+    home_passed (home (turn c.before)) (drop (turn c.before).loop.j (loop-start (turn c.before)).args.surveys.now) ≡ true
 over c = sym c.before.passed_over.ensures ∙ c.if1.true
 
 inside : (c : tie.Then1 invariant-loop decreases-loop) → (turn c.before).loop.j + 2 ≤ length (loop-start (turn c.before)).args.surveys.now
-inside c = let l = turn c.before in lower-inside (loop-start l).args.surveys.now (home l) l.loop.j (over c)
+inside c = let l = turn c.before in lower_inside (loop-start l).args.surveys.now (home l) l.loop.j (over c)
 
 -- ---- the needs
 
@@ -74,7 +74,7 @@ loop-again c =
       omega arith,
       inside c,
       l.inv.2,
-      walking-over l.inv.3 (omega arith) (over c),
+      walking_over l.inv.3 (omega arith) (over c),
     )
 
 code-at-requires : tie.Need-code-at-requires invariant-loop decreases-loop
@@ -119,7 +119,7 @@ loop-again-2 c =
       omega arith,
       omega arith,
       length-set (set l.out (2 * l.k) (home h)) (2 * l.k + 1) c.code_at.result ∙ length-set l.out (2 * l.k) (home h) ∙ l.inv.2,
-      walking-write l.inv.3 c.code_at.result (omega arith)
+      walking_write l.inv.3 c.code_at.result (omega arith)
           (room (loop-start h)).fits (sym p.passed_over.ensures ∙ c.before.if1.false) c.code_at.ensures,
     )
 
@@ -127,7 +127,7 @@ same_length : tie.Need-same-length invariant-loop decreases-loop
 same_length c = search rules
 
 returns : tie.Need-returns invariant-loop decreases-loop
-returns c = walking-end c.before.loop.invariant.3 (omega arith) (loop-start c.before).pre
+returns c = walking_end c.before.loop.invariant.3 (omega arith) (loop-start c.before).pre
 
 pub join-spec : {M : Type 1} → statement M
 join-spec =

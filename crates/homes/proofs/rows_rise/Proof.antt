@@ -6,7 +6,7 @@ use mathlib.Core.Path.{◌≡◌}
 use lib.ListN.{length, drop}
 use borrow.Author.Rules.{rules}
 use Rattle.homes.specs.Homes.{rows}
-use Rattle.homes.proofs.Forms.{rows_start, row-falls, row-without, row-rises, rows_end}
+use Rattle.homes.proofs.Forms.{rows_start, row_falls, row_without, row_rises, rows_end}
 use Rattle.homes.proofs.rows_rise.Statement.{statement}
 use Rattle.homes.proofs.rows_rise.Tie as tie
 
@@ -39,7 +39,7 @@ returns : tie.Need-returns invariant-loop decreases-loop
 returns c =
     let h = c.before.before.before in
     let l = h.loop in
-    row-falls h.before.args.surveys.now l.least l.j l.invariant.1 (omega arith) c.if1.true
+    row_falls h.before.args.surveys.now l.least l.j l.invariant.1 (omega arith) c.if1.true
 
 add-if2 : tie.Need-overflow-add-if2 invariant-loop decreases-loop
 add-if2 c = search rules
@@ -54,7 +54,7 @@ returns-2 : tie.Need-returns-2 invariant-loop decreases-loop
 returns-2 c =
     let e = c.before.before in
     let l = (turn e).loop in
-    row-without (turn e).before.args.surveys.now l.least l.j l.inv.1 (omega arith) e.if1.false c.if2.true
+    row_without (turn e).before.args.surveys.now l.least l.j l.inv.1 (omega arith) e.if1.false c.if2.true
 
 add-least : tie.Need-overflow-add-least invariant-loop decreases-loop
 add-least c =
@@ -71,7 +71,7 @@ loop-again : tie.Need-loop-preserved invariant-loop decreases-loop
 loop-again c =
     let e = c.before.before in
     let l = (turn e).loop in
-    (omega arith, row-rises (turn e).before.args.surveys.now l.least l.j l.inv.1 (omega arith) e.if1.false c.if2.false)
+    (omega arith, row_rises (turn e).before.args.surveys.now l.least l.j l.inv.1 (omega arith) e.if1.false c.if2.false)
 
 returns-3 : tie.Need-returns-3 invariant-loop decreases-loop
 returns-3 c =

@@ -2,7 +2,7 @@
 use mathlib.Core.Path.{sym, ◌∙◌}
 use borrow.Author.Tests.{not-true, not-false}
 use borrow.Author.Rules.{rules}
-use Rattle.homes.proofs.Forms.{many-homes, many-rows, short-output, homes-decide, rows-decide}
+use Rattle.homes.proofs.Forms.{many_homes, many_rows, short_output, homes_decide, rows_decide}
 use Rattle.homes.proofs.well_formed.Statement.{statement}
 use Rattle.homes.proofs.well_formed.Tie as tie
 
@@ -16,7 +16,7 @@ start c = c.before.before.before.before.before
 returns : tie.Need-returns
 returns c =
     let a = c.before.before.before.args in
-    many-homes a.homes.now a.surveys.now a.room c.if1.true
+    many_homes a.homes.now a.surveys.now a.room c.if1.true
 
 mul-if2 : tie.Need-overflow-mul-if2
 mul-if2 c = search rules
@@ -24,7 +24,7 @@ mul-if2 c = search rules
 returns-2 : tie.Need-returns-2
 returns-2 c =
     let a = c.before.before.before.before.args in
-    many-rows a.homes.now a.surveys.now a.room c.before.if1.false c.if2.true
+    many_rows a.homes.now a.surveys.now a.room c.before.if1.false c.if2.true
 
 mul-if3 : tie.Need-overflow-mul-if3
 mul-if3 c = search rules
@@ -32,7 +32,7 @@ mul-if3 c = search rules
 returns-3 : tie.Need-returns-3
 returns-3 c =
     let a = c.before.before.before.before.before.args in
-    short-output a.homes.now a.surveys.now a.room c.before.before.if1.false c.before.if2.false c.if3.true
+    short_output a.homes.now a.surveys.now a.room c.before.before.if1.false c.before.if2.false c.if3.true
 
 homes-rise-requires : tie.Need-homes-rise-requires
 homes-rise-requires c κs = search rules
@@ -42,7 +42,7 @@ returns-4 c =
     let h = c.before in
     let l = lengths h in
     let a = (start l).args in
-    homes-decide a.homes.now a.surveys.now a.room l.before.before.if1.left l.before.if2.left l.if3.left
+    homes_decide a.homes.now a.surveys.now a.room l.before.before.if1.left l.before.if2.left l.if3.left
     (sym h.homes-rise.ensures ∙ not-true _ c.if4.true)
 
 rows-rise-requires : tie.Need-rows-rise-requires
@@ -53,8 +53,8 @@ returns-5 c =
     let h = c.before.before in
     let l = lengths h in
     let a = (start l).args in
-    c.rows-rise.ensures
-    ∙ rows-decide a.homes.now a.surveys.now a.room l.before.before.if1.left l.before.if2.left l.if3.left
+    c.rows_rise.ensures
+    ∙ rows_decide a.homes.now a.surveys.now a.room l.before.before.if1.left l.before.if2.left l.if3.left
     (sym h.homes-rise.ensures ∙ not-false _ c.before.if4.false)
 
 pub well-formed-spec : {M : Type 1} → statement M

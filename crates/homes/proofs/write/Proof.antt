@@ -2,7 +2,7 @@
 use mathlib.Core.Path.{sym, ◌∙◌}
 use borrow.Author.Tests.{not-true, not-false}
 use borrow.Author.Rules.{rules}
-use Rattle.homes.proofs.Joins.{write-refused, write_done}
+use Rattle.homes.proofs.Joins.{write_refused, write_done}
 use Rattle.homes.proofs.write.Statement.{statement}
 use Rattle.homes.proofs.write.Tie as tie
 
@@ -20,7 +20,7 @@ returns : tie.Need-returns
 returns c =
     let f = c.before in
     let a = (start f).args in
-    write-refused a.homes.now a.surveys.now a.out.now (sym f.well-formed-2.ensures ∙ not-true _ c.if1.true)
+    write_refused a.homes.now a.surveys.now a.out.now (sym f.well-formed-2.ensures ∙ not-true _ c.if1.true)
 
 join-requires : tie.Need-join-requires
 join-requires c κs = sym (tested c).well-formed-2.ensures ∙ not-false _ c.before.if1.false
@@ -33,7 +33,7 @@ returns-2 c =
     let j = c.before.before in
     let f = tested j.before in
     let a = (start f).args in
-    write_done a.homes.now a.surveys.now a.out.now _ (sym f.well-formed.ensures ∙ not-false _ j.before.before.if1.false)
+    write_done a.homes.now a.surveys.now a.out.now _ (sym f.well_formed.ensures ∙ not-false _ j.before.before.if1.false)
     j.join.ensures
 
 pub write_spec : {M : Type 1} → statement M

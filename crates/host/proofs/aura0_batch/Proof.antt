@@ -2,11 +2,11 @@
 use Prim.Native.Nat.{◌<◌}
 use native.Mathlib.Omega.{arith}
 use borrow.Author.Rules.{rules}
-use Rattle.register.specs.Batch.{most-items}
+use Rattle.register.specs.Batch.{most_items}
 use Rattle.register.specs.Calls.{Lent}
 use Rattle.shared_tests.specs.Shared.{lent_of}
 use Rattle.host.specs.Answers.{Fits}
-use Rattle.host.proofs.Codes.{batched-all, batch-fits, batched-none}
+use Rattle.host.proofs.Codes.{batched_all, batch_fits, batched_none}
 use Rattle.host.proofs.aura0_batch.Statement.{statement}
 use Rattle.host.proofs.aura0_batch.Tie as tie
 
@@ -23,13 +23,13 @@ abbrev lent-here : tie.Start → Lent
 lent-here s = lent_of s.args.signature.now s.args.n s.args.workspace.now
 
 -- the index, the number and the place fit where a batch is refused
-fitting : (c : tie.After-known-told) → (c.before.batched.given.0.0 < most-items) ×
+fitting : (c : tie.After-known-told) → (c.before.batched.given.0.0 < most_items) ×
     Fits c.before.batched.given.0.1.0 c.before.batched.given.0.1.1.0
 fitting c =
     let b = answered c.before.before.before.before in
     let s = start b in
     let a = s.args in
-    batch-fits (lent-here s) a.register.now a.day a.items.now _ b.batch.result b.batch.ensures _ _ _ c.before.batched.given.1
+    batch_fits (lent-here s) a.register.now a.day a.items.now _ b.batch.result b.batch.ensures _ _ _ c.before.batched.given.1
     (omega (arith, s.good))
 
 -- ---- the needs
@@ -60,7 +60,7 @@ returns c =
     let b = answered c.before.before.before in
     let s = start b in
     let a = s.args in
-    batched-all (lent-here s) a.register.now a.day a.items.now _ b.batch.result b.batch.ensures c.enum_told.given.1
+    batched_all (lent-here s) a.register.now a.day a.items.now _ b.batch.result b.batch.ensures c.enum_told.given.1
 
 same-length-3 : tie.Need-same-length-3
 same-length-3 c = search rules
@@ -74,7 +74,7 @@ returns-2 c =
     let b = answered told.before.before.before.before in
     let s = start b in
     let a = s.args in
-    batched-none (lent-here s) a.register.now a.day a.items.now _ b.batch.result b.batch.ensures _ _ _
+    batched_none (lent-here s) a.register.now a.day a.items.now _ b.batch.result b.batch.ensures _ _ _
     told.before.batched.given.1 c.code.result c.code.ensures
 
 pub aura0-batch-spec : {M : Type 1} → statement M

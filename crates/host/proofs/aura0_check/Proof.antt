@@ -1,8 +1,8 @@
 -- Check, and its number and place as one number.
 use mathlib.Core.Path.{◌∙◌}
-use Rattle.register.specs.Calls.{Lent, check-call}
+use Rattle.register.specs.Calls.{Lent, check_call}
 use Rattle.shared_tests.specs.Shared.{lent_of}
-use Rattle.host.proofs.Codes.{check-fits, handed-code}
+use Rattle.host.proofs.Codes.{check_fits, handed_code}
 use native.Mathlib.Omega.{arith}
 use borrow.Author.Rules.{rules}
 use Rattle.host.proofs.aura0_check.Statement.{statement}
@@ -26,7 +26,7 @@ code-requires : tie.Need-code-requires
 code-requires c κs =
     let s = before-shared-slice-known (before-number c.before.before.before.before) in
     let H = c.before.before.check.ensures in
-    check-fits (lent-here s) s.args.register.now s.args.day s.args.term.now (omega (arith, s.good)) H.number_is H.place_is
+    check_fits (lent-here s) s.args.register.now s.args.day s.args.term.now (omega (arith, s.good)) H.number_is H.place_is
 
 same_length : tie.Need-same-length
 same_length c = search rules
@@ -35,7 +35,7 @@ returns : tie.Need-returns
 returns c =
     let s = before-shared-slice-known (before-number c.before.before.before.before.before) in
     let H = c.before.before.before.check.ensures in
-    c.code.ensures ∙ handed-code (check-call (lent-here s) s.args.register.now s.args.day s.args.term.now) H.number_is H.place_is
+    c.code.ensures ∙ handed_code (check_call (lent-here s) s.args.register.now s.args.day s.args.term.now) H.number_is H.place_is
 
 pub aura0-check-spec : {M : Type 1} → statement M
 aura0-check-spec = tie.close (tie.spec check-requires code-requires same_length returns)

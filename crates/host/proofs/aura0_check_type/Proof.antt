@@ -1,10 +1,10 @@
 -- Check, and its answer as one number, with how many words the type has.
 use Rattle.logic.specs.Result.{Result}
 use Rattle.logic.specs.Term.{Term}
-use Rattle.register.specs.Calls.{Lent, check-call}
+use Rattle.register.specs.Calls.{Lent, check_call}
 use Rattle.shared_tests.specs.Shared.{lent_of}
-use Rattle.check_call.proofs.Checks.{handed-nothing}
-use Rattle.host.proofs.Codes.{check-fits, typed-to, refused-to}
+use Rattle.check_call.proofs.Checks.{handed_nothing}
+use Rattle.host.proofs.Codes.{check_fits, typed_to, refused_to}
 use native.Mathlib.Omega.{arith}
 use borrow.Author.Rules.{rules}
 use Rattle.host.proofs.aura0_check_type.Statement.{statement}
@@ -15,7 +15,7 @@ lent-here s = lent_of s.args.signature.now s.args.n s.args.workspace.now
 
 -- the call
 abbrev called : tie.Start → Result Term
-called s = check-call (lent-here s) s.args.register.now s.args.day s.args.term.now
+called s = check_call (lent-here s) s.args.register.now s.args.day s.args.term.now
 
 judge-requires : tie.Need-judge-requires
 judge-requires c κs = search rules
@@ -34,16 +34,16 @@ before-shared-slice-known c = c.before
 abbrev before-judge : tie.After-judge → tie.After-shared-slice-known
 before-judge c = c.before.before.before.before.before
 
-abbrev before-workspace : tie.After-workspace → tie.After-judge
-before-workspace c = c.before
+abbrev before_workspace : tie.After-workspace → tie.After-judge
+before_workspace c = c.before
 
 code-requires : tie.Need-code-requires
 code-requires c κs =
     let at-judge = c.before.before.before.before.before in
     let s = before-shared-slice-known (before-judge at-judge) in
     let j = at-judge.judge in
-    let H = handed-nothing (called s) _ j.new.1.1.1.1.1.0 j.result j.ensures _ _ c.before.judged2.given.1 in
-    check-fits (lent-here s) s.args.register.now s.args.day s.args.term.now (omega (arith, s.good)) H.number_is H.place_is
+    let H = handed_nothing (called s) _ j.new.1.1.1.1.1.0 j.result j.ensures _ _ c.before.judged2.given.1 in
+    check_fits (lent-here s) s.args.register.now s.args.day s.args.term.now (omega (arith, s.good)) H.number_is H.place_is
 
 same_length : tie.Need-same-length
 same_length c = search rules
@@ -52,17 +52,17 @@ returns : tie.Need-returns
 returns c =
     let at-judge = c.before.before.before.before.before in
     let s = before-shared-slice-known (before-judge at-judge) in
-    let j = at-judge.judge in typed-to (called s) _ j.new.1.1.1.1.1.0 j.result j.ensures _ _ c.before.judged.given.1
+    let j = at-judge.judge in typed_to (called s) _ j.new.1.1.1.1.1.0 j.result j.ensures _ _ c.before.judged.given.1
 
 same-length-2 : tie.Need-same-length-2
 same-length-2 c = search rules
 
 returns-2 : tie.Need-returns-2
 returns-2 c =
-    let at-judge = before-workspace c.before.before.before.before.before in
+    let at-judge = before_workspace c.before.before.before.before.before in
     let s = before-shared-slice-known (before-judge at-judge) in
     let j = at-judge.judge in
-    refused-to (called s) _ j.last.1.1.1.1.1.0 j.result j.ensures _ _ c.before.before.judged2.given.1 c.code.result c.code.ensures
+    refused_to (called s) _ j.last.1.1.1.1.1.0 j.result j.ensures _ _ c.before.before.judged2.given.1 c.code.result c.code.ensures
 
 pub aura0-check-type-spec : {M : Type 1} → statement M
 aura0-check-type-spec =

@@ -4,11 +4,11 @@ use mathlib.Core.List.{List}
 use lib.ListN.{length}
 use native.Mathlib.Omega.{arith}
 use Rattle.logic.specs.Result.{Result}
-use Rattle.register.specs.Records.{Ask, ask-of}
+use Rattle.register.specs.Records.{Ask, ask_of}
 use Rattle.register.specs.Calls.{Lent}
 use Rattle.shared_tests.specs.Shared.{lent_of}
-use Rattle.extract.specs.Extract.{extract-call}
-use Rattle.host.proofs.Codes.{told-fits, told-code, extract-fits}
+use Rattle.extract.specs.Extract.{extract_call}
+use Rattle.host.proofs.Codes.{told_fits, told_code, extract_fits}
 use borrow.Author.Rules.{rules}
 use Rattle.host.proofs.aura0_extract.Statement.{statement}
 use Rattle.host.proofs.aura0_extract.Tie as tie
@@ -26,13 +26,13 @@ lent-here s = lent_of s.args.signature.now s.args.n s.args.workspace.now
 
 -- what is asked
 abbrev asked : tie.Start → Ask
-asked s = ask-of s.args.operation s.args.extract s.args.delivery s.args.day s.args.proof.now
+asked s = ask_of s.args.operation s.args.extract s.args.delivery s.args.day s.args.proof.now
 
 -- the call
 abbrev called : tie.Start → Result (List ℕ)
 called s =
     let a = s.args in
-    extract-call (lent-here s) a.register.now (asked s) a.homes.now a.surveys.now (length a.output.now)
+    extract_call (lent-here s) a.register.now (asked s) a.homes.now a.surveys.now (length a.output.now)
 
 extract-requires : tie.Need-extract-requires
 extract-requires c κs = search rules
@@ -41,8 +41,8 @@ answer-requires : tie.Need-answer-requires
 answer-requires c κs =
     let s = start (made c) in
     let v = (made c).extract in
-    told-fits (called s) v.result v.ensures.answer
-    (λ m p. extract-fits (lent-here s) s.args.register.now (asked s) s.args.homes.now s.args.surveys.now
+    told_fits (called s) v.result v.ensures.answer
+    (λ m p. extract_fits (lent-here s) s.args.register.now (asked s) s.args.homes.now s.args.surveys.now
     (length s.args.output.now) m p (omega (arith, s.good)))
 
 same_length : tie.Need-same-length
@@ -58,7 +58,7 @@ returns : tie.Need-returns
 returns c =
     let v = (made c.before).extract in
     record {
-      answer = told-code (called (start (made c.before))) v.result c.answer.result v.ensures.answer c.answer.ensures;
+      answer = told_code (called (start (made c.before))) v.result c.answer.result v.ensures.answer c.answer.ensures;
       register = v.ensures.register;
       output = v.ensures.output;
     }

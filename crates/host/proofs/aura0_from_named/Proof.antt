@@ -7,7 +7,7 @@ use borrow.Author.Rules.{rules}
 use Rattle.logic.specs.Result.{Result}
 use Rattle.editions.specs.Convert.{from_named}
 use Rattle.editions.specs.declared.Edition.TheVariants.{Names}
-use Rattle.host.proofs.Codes.{converted-to, unconverted-is, not-converted, convert-fits}
+use Rattle.host.proofs.Codes.{converted_to, unconverted_is, not_converted, convert_fits}
 use Rattle.host.proofs.aura0_from_named.Statement.{statement}
 use Rattle.host.proofs.aura0_from_named.Tie as tie
 
@@ -40,8 +40,8 @@ code-requires c κs =
     let x = before-known-told2 c in
     let s = before-from-named x in
     let a = s.args in
-    convert-fits Names a.term.now (length a.output.now) _ _ (omega (arith, s.good))
-    (unconverted-is (called s) a.output.now _ x.from_named.result x.from_named.ensures _ _ c.before.conversion2.given.1)
+    convert_fits Names a.term.now (length a.output.now) _ _ (omega (arith, s.good))
+    (unconverted_is (called s) a.output.now _ x.from_named.result x.from_named.ensures _ _ c.before.conversion2.given.1)
 
 same_length : tie.Need-same-length
 same_length c = search rules
@@ -50,7 +50,7 @@ returns : tie.Need-returns
 returns c =
     let x = before-known-told c in
     let s = before-from-named x in
-    converted-to (called s) s.args.output.now _ x.from_named.result x.from_named.ensures _ c.before.conversion.given.1
+    converted_to (called s) s.args.output.now _ x.from_named.result x.from_named.ensures _ c.before.conversion.given.1
 
 same-length-2 : tie.Need-same-length-2
 same-length-2 c = search rules
@@ -59,7 +59,7 @@ returns-2 : tie.Need-returns-2
 returns-2 c =
     let x = before-known-told2 c.before in
     let s = before-from-named x in
-    not-converted (called s) s.args.output.now _ x.from_named.result x.from_named.ensures _ _ c.before.before.conversion2.given.1
+    not_converted (called s) s.args.output.now _ x.from_named.result x.from_named.ensures _ _ c.before.before.conversion2.given.1
     c.code.result c.code.ensures
 
 pub aura0-from-named-spec : {M : Type 1} → statement M

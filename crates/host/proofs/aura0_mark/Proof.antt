@@ -1,8 +1,8 @@
 -- Mark, and its answer as one number.
 use mathlib.Core.List.{List}
 use Rattle.logic.specs.Result.{Result}
-use Rattle.register.specs.Marks.{Mark, mark-call}
-use Rattle.host.proofs.Codes.{told-fits, told-code, mark-fits}
+use Rattle.register.specs.Marks.{Mark, mark_call}
+use Rattle.host.proofs.Codes.{told_fits, told_code, mark_fits}
 use borrow.Author.Rules.{rules}
 use Rattle.host.proofs.aura0_mark.Statement.{statement}
 use Rattle.host.proofs.aura0_mark.Tie as tie
@@ -17,7 +17,7 @@ start c = c.before.before.before.before
 
 -- the call
 abbrev called : tie.Start → Result (List Mark)
-called s = mark-call s.args.register.now s.args.marks.now s.args.number
+called s = mark_call s.args.register.now s.args.marks.now s.args.number
 
 mark-requires : tie.Need-mark-requires
 mark-requires c κs = search rules
@@ -26,8 +26,8 @@ answer-requires : tie.Need-answer-requires
 answer-requires c κs =
     let s = start (made c) in
     let v = (made c).mark in
-    told-fits (called s) v.result v.ensures.answer
-    (λ m p. mark-fits s.args.register.now s.args.marks.now s.args.number m p)
+    told_fits (called s) v.result v.ensures.answer
+    (λ m p. mark_fits s.args.register.now s.args.marks.now s.args.number m p)
 
 same_length : tie.Need-same-length
 same_length c = search rules
@@ -36,7 +36,7 @@ returns : tie.Need-returns
 returns c =
     let v = (made c.before).mark in
     record {
-      answer = told-code (called (start (made c.before))) v.result c.answer.result v.ensures.answer c.answer.ensures;
+      answer = told_code (called (start (made c.before))) v.result c.answer.result v.ensures.answer c.answer.ensures;
       marks = v.ensures.marks;
     }
 

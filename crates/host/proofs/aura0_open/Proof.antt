@@ -3,9 +3,9 @@ use mathlib.Core.List.{List}
 use native.Mathlib.Omega.{arith}
 use Rattle.logic.specs.Result.{Result}
 use Rattle.register.specs.Records.{Record}
-use Rattle.register.specs.Calls.{Lent, open-call}
+use Rattle.register.specs.Calls.{Lent, open_call}
 use Rattle.shared_tests.specs.Shared.{lent_of}
-use Rattle.host.proofs.Codes.{told-fits, told-code, open-fits}
+use Rattle.host.proofs.Codes.{told_fits, told_code, open_fits}
 use borrow.Author.Rules.{rules}
 use Rattle.host.proofs.aura0_open.Statement.{statement}
 use Rattle.host.proofs.aura0_open.Tie as tie
@@ -23,7 +23,7 @@ lent-here s = lent_of s.args.signature.now s.args.n s.args.workspace.now
 
 -- the call
 abbrev called : tie.Start → Result (List Record)
-called s = open-call (lent-here s) s.args.register.now s.args.mode s.args.rules.now
+called s = open_call (lent-here s) s.args.register.now s.args.mode s.args.rules.now
 
 open-requires : tie.Need-open-requires
 open-requires c κs = search rules
@@ -32,8 +32,8 @@ answer-requires : tie.Need-answer-requires
 answer-requires c κs =
     let s = start (made c) in
     let v = (made c).«open» in
-    told-fits (called s) v.result v.ensures.answer
-    (λ m p. open-fits (lent-here s) s.args.register.now s.args.mode s.args.rules.now m p (omega (arith, s.good)))
+    told_fits (called s) v.result v.ensures.answer
+    (λ m p. open_fits (lent-here s) s.args.register.now s.args.mode s.args.rules.now m p (omega (arith, s.good)))
 
 same_length : tie.Need-same-length
 same_length c = search rules
@@ -48,7 +48,7 @@ returns : tie.Need-returns
 returns c =
     let v = (made c.before).«open» in
     record {
-      answer = told-code (called (start (made c.before))) v.result c.answer.result v.ensures.answer c.answer.ensures;
+      answer = told_code (called (start (made c.before))) v.result c.answer.result v.ensures.answer c.answer.ensures;
       register = v.ensures.register;
       marks = v.ensures.marks;
     }

@@ -1,6 +1,6 @@
 -- Read, and its answer as one number, with where the body stands.
 use Rattle.read_call.proofs.ReadAnswers.{one_less}
-use Rattle.host.proofs.Starts.{Present, number_fits, not-read, present, start_fits, read-to}
+use Rattle.host.proofs.Starts.{Present, number_fits, not_read, present, start_fits, read_to}
 use native.Mathlib.Omega.{arith}
 use borrow.Author.Rules.{rules}
 use Rattle.host.proofs.aura0_read.Statement.{statement}
@@ -21,10 +21,10 @@ before-number c = c.before.before.before
 
 returns : tie.Need-returns
 returns c =
-    let at-start = before-number c.before.before.before in
-    let a = at-start.args in
+    let at_start = before-number c.before.before.before in
+    let a = at_start.args in
     let r = c.before.before.read in
-    not-read a.register.now a.«record» _ r.ensures.1.1 _ r.result.now c.code.result c.before.if1.true r.ensures.1.0
+    not_read a.register.now a.«record» _ r.ensures.1.1 _ r.result.now c.code.result c.before.if1.true r.ensures.1.0
     r.ensures.0 c.code.ensures
 
 -- there is such a record
@@ -36,17 +36,17 @@ place-requires c κs = one_less (found c).among
 
 add_start : tie.Need-overflow-add-start
 add_start c =
-    let at-start = before-number c.before.before.before in
-    let a = at-start.args in
+    let at_start = before-number c.before.before.before in
+    let a = at_start.args in
     let h = start_fits a.register.now a.«record» (found c.before) c.place.result c.place.ensures in
-    omega (arith, at-start.good)
+    omega (arith, at_start.good)
 
 returns-2 : tie.Need-returns-2
 returns-2 c =
-    let at-start = before-number c.before.before.before in
-    let a = at-start.args in
+    let at_start = before-number c.before.before.before in
+    let a = at_start.args in
     let r = c.before.before.read in
-    read-to a.register.now a.«record» (found c.before) c.place.result c.place.ensures _ r.result.now r.ensures.1.0 r.ensures.0
+    read_to a.register.now a.«record» (found c.before) c.place.result c.place.ensures _ r.result.now r.ensures.1.0 r.ensures.0
 
 pub aura0-read-spec : {M : Type 1} → statement M
 aura0-read-spec =

@@ -1,10 +1,10 @@
 -- Request, and its answer as one number.
 use Rattle.logic.specs.Result.{Result}
 use native.Mathlib.Omega.{arith}
-use Rattle.register.specs.Records.{Ask, ask-of}
-use Rattle.register.specs.Calls.{Lent, request-call}
+use Rattle.register.specs.Records.{Ask, ask_of}
+use Rattle.register.specs.Calls.{Lent, request_call}
 use Rattle.shared_tests.specs.Shared.{lent_of}
-use Rattle.host.proofs.Codes.{granted-fits, granted-code, request-fits}
+use Rattle.host.proofs.Codes.{granted_fits, granted_code, request_fits}
 use borrow.Author.Rules.{rules}
 use Rattle.host.proofs.aura0_request.Statement.{statement}
 use Rattle.host.proofs.aura0_request.Tie as tie
@@ -22,11 +22,11 @@ lent-here s = lent_of s.args.signature.now s.args.n s.args.workspace.now
 
 -- what is asked
 abbrev asked : tie.Start → Ask
-asked s = ask-of s.args.operation s.args.extract s.args.delivery s.args.day s.args.proof.now
+asked s = ask_of s.args.operation s.args.extract s.args.delivery s.args.day s.args.proof.now
 
 -- the call
 abbrev called : tie.Start → Result (Unit {0})
-called s = request-call (lent-here s) s.args.register.now (asked s)
+called s = request_call (lent-here s) s.args.register.now (asked s)
 
 request-requires : tie.Need-request-requires
 request-requires c κs = search rules
@@ -35,8 +35,8 @@ answer-requires : tie.Need-answer-requires
 answer-requires c κs =
     let s = start (made c) in
     let v = (made c).request in
-    granted-fits (called s) v.result v.ensures.answer
-    (λ m p. request-fits (lent-here s) s.args.register.now (asked s) m p (omega (arith, s.good)))
+    granted_fits (called s) v.result v.ensures.answer
+    (λ m p. request_fits (lent-here s) s.args.register.now (asked s) m p (omega (arith, s.good)))
 
 same_length : tie.Need-same-length
 same_length c = search rules
@@ -48,7 +48,7 @@ returns : tie.Need-returns
 returns c =
     let v = (made c.before).request in
     record {
-      answer = granted-code (called (start (made c.before))) v.result c.answer.result v.ensures.answer c.answer.ensures;
+      answer = granted_code (called (start (made c.before))) v.result c.answer.result v.ensures.answer c.answer.ensures;
       register = v.ensures.register;
     }
 

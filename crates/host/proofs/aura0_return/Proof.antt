@@ -1,7 +1,7 @@
 -- Return, and its answer as one number.
 use Rattle.logic.specs.Result.{Result}
-use Rattle.register.specs.Marks.{Returned, return-call}
-use Rattle.host.proofs.Codes.{told-fits, told-code, return_fits}
+use Rattle.register.specs.Marks.{Returned, return_call}
+use Rattle.host.proofs.Codes.{told_fits, told_code, return_fits}
 use borrow.Author.Rules.{rules}
 use Rattle.host.proofs.aura0_return.Statement.{statement}
 use Rattle.host.proofs.aura0_return.Tie as tie
@@ -16,7 +16,7 @@ start c = c.before.before.before.before.before
 
 -- the call
 abbrev called : tie.Start → Result Returned
-called s = return-call s.args.register.now s.args.marks.now s.args.number
+called s = return_call s.args.register.now s.args.marks.now s.args.number
 
 return-to-requires : tie.Need-return-to-requires
 return-to-requires c κs = search rules
@@ -24,8 +24,8 @@ return-to-requires c κs = search rules
 answer-requires : tie.Need-answer-requires
 answer-requires c κs =
     let s = start (made c) in
-    let v = (made c).return-to in
-    told-fits (called s) v.result v.ensures.answer
+    let v = (made c).return_to in
+    told_fits (called s) v.result v.ensures.answer
     (λ m p. return_fits s.args.register.now s.args.marks.now s.args.number m p)
 
 same_length : tie.Need-same-length
@@ -36,9 +36,9 @@ same-length-2 c = search rules
 
 returns : tie.Need-returns
 returns c =
-    let v = (made c.before).return-to in
+    let v = (made c.before).return_to in
     record {
-      answer = told-code (called (start (made c.before))) v.result c.answer.result v.ensures.answer c.answer.ensures;
+      answer = told_code (called (start (made c.before))) v.result c.answer.result v.ensures.answer c.answer.ensures;
       register = v.ensures.register;
       marks = v.ensures.marks;
     }

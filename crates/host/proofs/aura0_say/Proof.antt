@@ -1,8 +1,8 @@
 -- Say, and its answer as one number, with whether a record was added.
-use Rattle.register.specs.Records.{Statement, statement-of}
+use Rattle.register.specs.Records.{Statement, statement_of}
 use Rattle.register.specs.Calls.{Lent}
 use Rattle.shared_tests.specs.Shared.{lent_of}
-use Rattle.host.proofs.Codes.{said-added, said-held, unsaid-is, said-nothing, say-fits}
+use Rattle.host.proofs.Codes.{said_added, said_held, unsaid_is, said_nothing, say_fits}
 use native.Mathlib.Omega.{arith}
 use borrow.Author.Rules.{rules}
 use Rattle.host.proofs.aura0_say.Statement.{statement}
@@ -12,8 +12,8 @@ abbrev lent-here : tie.Start → Lent
 lent-here s = lent_of s.args.signature.now s.args.n s.args.workspace.now
 
 -- what is said
-abbrev said-by : tie.Start → Statement
-said-by s = statement-of s.args.principal s.args.first s.args.last s.args.proposition.now
+abbrev said_by : tie.Start → Statement
+said_by s = statement_of s.args.principal s.args.first s.args.last s.args.proposition.now
 
 say-requires : tie.Need-say-requires
 say-requires c κs = search rules
@@ -35,17 +35,17 @@ before-slice-known c = c.before.before
 abbrev before-say : tie.After-say → tie.After-slice-known
 before-say c = c.before.before.before.before.before
 
-abbrev before-workspace : tie.After-workspace → tie.After-say
-before-workspace c = c.before.before.before
+abbrev before_workspace : tie.After-workspace → tie.After-say
+before_workspace c = c.before.before.before
 
 code-requires : tie.Need-code-requires
 code-requires c κs =
-    let at-say = before-workspace c.before.before.before.before in
+    let at-say = before_workspace c.before.before.before.before in
     let s = before-slice-known (before-say at-say) in
     let a = s.args in
     let v = at-say.say in
-    say-fits (lent-here s) a.register.now a.day (said-by s) _ _ (omega (arith, s.good))
-    (unsaid-is (lent-here s) a.register.now a.day (said-by s) v.last.1.1.0 v.result v.ensures _ _
+    say_fits (lent-here s) a.register.now a.day (said_by s) _ _ (omega (arith, s.good))
+    (unsaid_is (lent-here s) a.register.now a.day (said_by s) v.last.1.1.0 v.result v.ensures _ _
     c.before.said.given.1)
 
 same_length : tie.Need-same-length
@@ -56,11 +56,11 @@ same-length-2 c = search rules
 
 returns : tie.Need-returns
 returns c =
-    let at-say = before-workspace c.before.before.before in
+    let at-say = before_workspace c.before.before.before in
     let s = before-slice-known (before-say at-say) in
     let a = s.args in
     let v = at-say.say in
-    said-added (lent-here s) a.register.now a.day (said-by s) v.last.1.1.0 v.result v.ensures c.enum_told.given.1
+    said_added (lent-here s) a.register.now a.day (said_by s) v.last.1.1.0 v.result v.ensures c.enum_told.given.1
 
 same-length-3 : tie.Need-same-length-3
 same-length-3 c = search rules
@@ -70,11 +70,11 @@ same-length-4 c = search rules
 
 returns-2 : tie.Need-returns-2
 returns-2 c =
-    let at-say = before-workspace c.before.before.before in
+    let at-say = before_workspace c.before.before.before in
     let s = before-slice-known (before-say at-say) in
     let a = s.args in
     let v = at-say.say in
-    said-held (lent-here s) a.register.now a.day (said-by s) v.last.1.1.0 v.result v.ensures c.enum-told2.given.1
+    said_held (lent-here s) a.register.now a.day (said_by s) v.last.1.1.0 v.result v.ensures c.enum-told2.given.1
 
 same-length-5 : tie.Need-same-length-5
 same-length-5 c = search rules
@@ -84,11 +84,11 @@ same-length-6 c = search rules
 
 returns-3 : tie.Need-returns-3
 returns-3 c =
-    let at-say = before-workspace c.before.before.before.before.before in
+    let at-say = before_workspace c.before.before.before.before.before in
     let s = before-slice-known (before-say at-say) in
     let a = s.args in
     let v = at-say.say in
-    said-nothing (lent-here s) a.register.now a.day (said-by s) v.last.1.1.0 v.result v.ensures _ _
+    said_nothing (lent-here s) a.register.now a.day (said_by s) v.last.1.1.0 v.result v.ensures _ _
     c.before.before.said.given.1 c.code.result c.code.ensures
 
 pub aura0-say-spec : {M : Type 1} → statement M

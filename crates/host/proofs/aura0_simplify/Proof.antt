@@ -5,9 +5,9 @@ use borrow.Author.Rules.{rules}
 use Rattle.logic.specs.Result.{Result}
 use Rattle.register.specs.Calls.{Lent}
 use Rattle.reduction.specs.Simplify.{Simplified}
-use Rattle.reduction.specs.Call.{simplify-call}
+use Rattle.reduction.specs.Call.{simplify_call}
 use Rattle.shared_tests.specs.Shared.{lent_of}
-use Rattle.host.proofs.Codes.{simplified-to, unsimplified-is, not-simplified, simplify-fits}
+use Rattle.host.proofs.Codes.{simplified_to, unsimplified_is, not_simplified, simplify_fits}
 use Rattle.host.proofs.aura0_simplify.Statement.{statement}
 use Rattle.host.proofs.aura0_simplify.Tie as tie
 
@@ -25,7 +25,7 @@ lent-here s = lent_of s.args.signature.now s.args.n s.args.workspace.now
 
 -- the call
 abbrev called : tie.Start → Result Simplified
-called s = simplify-call (lent-here s) s.args.register.now s.args.day s.args.term.now s.args.budget (length s.args.output.now)
+called s = simplify_call (lent-here s) s.args.register.now s.args.day s.args.term.now s.args.budget (length s.args.output.now)
 
 -- ---- the needs
 
@@ -43,8 +43,8 @@ code-requires c κs =
     let x = answered c.before.before.before.before in
     let s = start x in
     let a = s.args in
-    simplify-fits (lent-here s) a.register.now a.day a.term.now a.budget (length a.output.now) _ _ (omega (arith, s.good))
-    (unsimplified-is (called s) a.output.now _ x.simplify.result x.simplify.ensures _ _ c.before.simplified2.given.1)
+    simplify_fits (lent-here s) a.register.now a.day a.term.now a.budget (length a.output.now) _ _ (omega (arith, s.good))
+    (unsimplified_is (called s) a.output.now _ x.simplify.result x.simplify.ensures _ _ c.before.simplified2.given.1)
 
 same_length : tie.Need-same-length
 same_length c = search rules
@@ -56,7 +56,7 @@ returns : tie.Need-returns
 returns c =
     let x = answered c.before.before.before.before in
     let s = start x in
-    simplified-to (called s) s.args.output.now _ x.simplify.result x.simplify.ensures _ _ c.before.simplified.given.1
+    simplified_to (called s) s.args.output.now _ x.simplify.result x.simplify.ensures _ _ c.before.simplified.given.1
 
 same-length-3 : tie.Need-same-length-3
 same-length-3 c = search rules
@@ -69,7 +69,7 @@ returns-2 c =
     let told = c.before in
     let x = answered told.before.before.before.before in
     let s = start x in
-    not-simplified (called s) s.args.output.now _ x.simplify.result x.simplify.ensures _ _ told.before.simplified2.given.1
+    not_simplified (called s) s.args.output.now _ x.simplify.result x.simplify.ensures _ _ told.before.simplified2.given.1
     c.code.result c.code.ensures
 
 pub aura0-simplify-spec : {M : Type 1} → statement M

@@ -3,13 +3,13 @@ use Prim.Native.Nat.{◌-◌, ◌≤◌}
 use native.Mathlib.Omega.{arith}
 use lib.ListN.{length}
 use borrow.Author.Rules.{rules}
-use Rattle.register.specs.Batch.{most-items}
-use Rattle.item_list.proofs.ItemPlaces.{Counted, counted_start, counted_next, WholeAt, whole-there, too_many, last-counted, all-counted}
+use Rattle.register.specs.Batch.{most_items}
+use Rattle.item_list.proofs.ItemPlaces.{Counted, counted_start, counted_next, WholeAt, whole_there, too_many, last_counted, all_counted}
 use Rattle.item_list.proofs.few.Statement.{statement}
 use Rattle.item_list.proofs.few.Tie as tie
 
 abbrev invariant-loop : tie.invariant-loop
-invariant-loop items at₀ count₀ at count = (at ≤ length items) × (count ≤ most-items) × Counted items at count
+invariant-loop items at₀ count₀ at count = (at ≤ length items) × (count ≤ most_items) × Counted items at count
 
 abbrev decreases-loop : tie.decreases-loop
 decreases-loop items at₀ count₀ at count = length items - at
@@ -33,7 +33,7 @@ whole : (c : tie.After-known-told invariant-loop decreases-loop) (day : _) →
 whole c day =
     let n = found c in
     let at-loop = (turn n).before in
-    whole-there day (start at-loop).args.items.now at-loop.loop.at n.item-at.result (n.item-at.ensures day) _ c.before.item.given.1
+    whole_there day (start at-loop).args.items.now at-loop.loop.at n.item_at.result (n.item_at.ensures day) _ c.before.item.given.1
 
 loop-holds : tie.Need-loop-init invariant-loop decreases-loop
 loop-holds c = (omega arith, omega arith, counted_start c.before.args.items.now)
@@ -58,7 +58,7 @@ returns-2 c =
     let n = c.before.before in
     let t = turn n in
     let h = t.before.loop.inv in
-    last-counted h.2 t.loop-test.taken (omega (arith, n.before.if1.false)) n.item-at.result n.item-at.ensures c.enum_told.given.1
+    last_counted h.2 t.loop-test.taken (omega (arith, n.before.if1.false)) n.item_at.result n.item_at.ensures c.enum_told.given.1
 
 add-count : tie.Need-overflow-add-count invariant-loop decreases-loop
 add-count c = search rules
@@ -72,7 +72,7 @@ loop-again c =
     ((whole c 0).within, omega (arith, (found c).before.if1.false), counted_next h.2 (whole c))
 
 returns-3 : tie.Need-returns-3 invariant-loop decreases-loop
-returns-3 c = let h = c.before.loop.invariant in all-counted h.2 h.1 c.loop-test.false
+returns-3 c = let h = c.before.loop.invariant in all_counted h.2 h.1 c.loop-test.false
 
 pub few-spec : {M : Type 1} → statement M
 few-spec =

@@ -2,8 +2,8 @@
 -- are left written behind them, the output is that of the whole load. The measure: how many words are left.
 use Rattle.std.proofs.Common.{◌-◌, length, inl, inr, arith, rules, leb-false, leb-true}
 use Rattle.words.proofs.Counts.{none_written}
-use Rattle.load.proofs.Draws.{drawn-fits, principal-fits}
-use Rattle.load.proofs.Writes.{out_of_range, load-too-short, Loading, loading-starts, room-left, loading-turn, loading-ends}
+use Rattle.load.proofs.Draws.{drawn_fits, principal_fits}
+use Rattle.load.proofs.Writes.{out_of_range, load_too_short, Loading, loading_starts, room_left, loading_turn, loading_ends}
 use Rattle.load.proofs.load.Statement.{statement}
 use Rattle.load.proofs.load.Tie as tie
 
@@ -27,13 +27,13 @@ returns-2 c =
     let few = c.before in
     let some = few.before in
     let a = some.before.before.args in
-    none_written a.output.now (load-too-short a.seed a.count (length a.output.now) (omega (arith, some.if1.false))
+    none_written a.output.now (load_too_short a.seed a.count (length a.output.now) (omega (arith, some.if1.false))
     (omega (arith, leb-false 257 a.count few.if2.false)) (omega (arith, c.if3.true)))
 
 loop-holds : tie.Need-loop-init invariant-loop decreases-loop
 loop-holds c =
     let a = c.before.before.before.before.args in
-    loading-starts a.seed a.count a.output.now
+    loading_starts a.seed a.count a.output.now
 
 next-state-requires : tie.Need-next-state-requires invariant-loop decreases-loop
 next-state-requires c κs = search rules
@@ -58,9 +58,9 @@ write-request-requires c κs =
     let fits = at-loop.before in
     let a = fits.before.before.before.before.args in
     record {
-      extract-fits = drawn-fits first.next-state.result;
-      principal-fits = rw c.before.principal-from.ensures (principal-fits second.next-state2.result);
-      room = room-left a.seed a.count a.output.now l.output l.state l.place (omega (arith, fits.if3.false)) l.invariant
+      extract_fits = drawn_fits first.next_state.result;
+      principal_fits = rw c.before.principal_from.ensures (principal_fits second.next-state2.result);
+      room = room_left a.seed a.count a.output.now l.output l.state l.place (omega (arith, fits.if3.false)) l.invariant
           (omega (arith, turn.loop-test.true));
     }
 
@@ -82,9 +82,9 @@ loop-again c =
     let l = at-loop.loop in
     let fits = at-loop.before in
     let a = fits.before.before.before.before.args in
-    loading-turn a.seed a.count a.output.now l.output l.state l.place (omega (arith, fits.if3.false)) l.invariant
-    _ _ _ _ _ (omega (arith, turn.loop-test.true)) first.next-state.ensures second.next-state2.ensures third.next-state3.ensures
-    drawn.principal-from.ensures written.write-request.ensures
+    loading_turn a.seed a.count a.output.now l.output l.state l.place (omega (arith, fits.if3.false)) l.invariant
+    _ _ _ _ _ (omega (arith, turn.loop-test.true)) first.next_state.ensures second.next-state2.ensures third.next-state3.ensures
+    drawn.principal_from.ensures written.write-request.ensures
 
 same_length : tie.Need-same-length invariant-loop decreases-loop
 same_length c = search rules
@@ -97,7 +97,7 @@ returns-3 c =
     let few = fits.before in
     let some = few.before in
     let a = some.before.before.args in
-    loading-ends a.seed a.count a.output.now l.output l.state l.place (omega (arith, fits.if3.false)) l.invariant
+    loading_ends a.seed a.count a.output.now l.output l.state l.place (omega (arith, fits.if3.false)) l.invariant
     (omega (arith, c.loop-test.false)) (omega (arith, some.if1.false)) (omega (arith, leb-false 257 a.count few.if2.false))
 
 pub load_spec : {M : Type 1} → statement M

@@ -1,5 +1,5 @@
 -- `write_request` copies the front of a request's words, and behind it the proof.
-use Rattle.load.proofs.Writes.{request-written}
+use Rattle.load.proofs.Writes.{request_written}
 use Rattle.logic.specs.Term.{encode}
 use Rattle.std.proofs.Common.{rules}
 use Rattle.load.proofs.write_request.Statement.{statement}
@@ -37,7 +37,7 @@ returns c =
     let built = first.before.before.before in
     let start = built.before.before in
     let a = start.args in
-    request-written a.extract a.principal a.delivery a.output.now _ _ _ a.place start.requires.room built.proof-words.ensures
+    request_written a.extract a.principal a.delivery a.output.now _ _ _ a.place start.requires.room built.proof_words.ensures
     first.copy.ensures second.copy2.ensures
 
 pub write-request-spec : {M : Type 1} → statement M

@@ -4,15 +4,15 @@ use native.Mathlib.Omega.{arith}
 use mathlib.Core.Path.{◌≡◌, refl, ◌∙◌}
 use lib.ListN.{length, get_or}
 use borrow.Author.Rules.{rules}
-use Rattle.decimal.specs.Decimal.{number-bytes}
-use Rattle.decimal.proofs.Digits.{number-length}
-use Rattle.number_file.proofs.Fields.{Putting, putting-start, putting-next, putting-end}
+use Rattle.decimal.specs.Decimal.{number_bytes}
+use Rattle.decimal.proofs.Digits.{number_length}
+use Rattle.number_file.proofs.Fields.{Putting, putting_start, putting_next, putting_end}
 use Rattle.number_file.proofs.put_fields.Statement.{statement}
 use Rattle.number_file.proofs.put_fields.Tie as tie
 
 abbrev invariant-loop : tie.invariant-loop
 invariant-loop words out₀ to end₀ this₀ other₀ i₀ out end this other i =
-    (i ≤ length words) × (end ≤ to + number-bytes * i) × (length out ≡ length out₀) × Putting words out₀ to out end this other i
+    (i ≤ length words) × (end ≤ to + number_bytes * i) × (length out ≡ length out₀) × Putting words out₀ to out end this other i
 
 abbrev decreases-loop : tie.decreases-loop
 decreases-loop words out₀ to end₀ this₀ other₀ i₀ out end this other i = length words - i
@@ -27,7 +27,7 @@ loop-start c = c.before.before.before
 loop-holds : tie.Need-loop-init invariant-loop decreases-loop
 loop-holds c =
     let a = c.before.before.args in
-    (omega arith, omega arith, refl, putting-start a.words.now a.out.now a.to)
+    (omega arith, omega arith, refl, putting_start a.words.now a.out.now a.to)
 
 mul-put-number : tie.Need-overflow-mul-put-number invariant-loop decreases-loop
 mul-put-number c = search rules
@@ -49,18 +49,18 @@ loop-again c =
     let n = c.before.before in
     let l = (turn n).loop in
     let a = (loop-start (turn n)).args in
-    let p = n.put-number.ensures in (
+    let p = n.put_number.ensures in (
       omega arith,
-      omega (arith, p.end, number-length (get_or a.words.now l.i 0) l.this),
-      n.put-number.auto.1.1.0 ∙ l.inv.2,
-      putting-next l.inv.3 _ _ (omega arith) (omega arith) p,
+      omega (arith, p.end, number_length (get_or a.words.now l.i 0) l.this),
+      n.put_number.auto.1.1.0 ∙ l.inv.2,
+      putting_next l.inv.3 _ _ (omega arith) (omega arith) p,
     )
 
 same_length : tie.Need-same-length invariant-loop decreases-loop
 same_length c = c.before.loop.invariant.2
 
 returns : tie.Need-returns invariant-loop decreases-loop
-returns c = putting-end c.before.loop.invariant.3 (omega arith)
+returns c = putting_end c.before.loop.invariant.3 (omega arith)
 
 pub put-fields-spec : {M : Type 1} → statement M
 put-fields-spec =

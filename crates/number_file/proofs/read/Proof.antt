@@ -5,7 +5,7 @@ use mathlib.Core.Path.{sym, ◌∙◌}
 use lib.ListN.{length}
 use borrow.Author.Tests.{not-true, not-false}
 use borrow.Author.Rules.{rules}
-use Rattle.number_file.proofs.Reader.{starts-long, not-headed, headed}
+use Rattle.number_file.proofs.Reader.{starts_long, not_headed, headed}
 use Rattle.number_file.proofs.read.Statement.{statement}
 use Rattle.number_file.proofs.read.Tie as tie
 
@@ -21,7 +21,7 @@ headed-there c = c.before.before.before
 long : (c : tie.Else1) → length (start c.before).args.heading.now ≤ length (start c.before).args.bytes.now
 long c =
     let a = (start c.before).args in
-    starts-long a.heading.now a.bytes.now (sym c.before.starts.ensures ∙ not-false _ c.if1.false)
+    starts_long a.heading.now a.bytes.now (sym c.before.starts.ensures ∙ not-false _ c.if1.false)
 
 starts-requires : tie.Need-starts-requires
 starts-requires c κs = search rules
@@ -29,7 +29,7 @@ starts-requires c κs = search rules
 returns : tie.Need-returns
 returns c =
     let a = (start c.before).args in
-    not-headed a.heading.now a.bytes.now a.words.now a.words.now a.first (sym c.before.starts.ensures ∙ not-true _ c.if1.true)
+    not_headed a.heading.now a.bytes.now a.words.now a.words.now a.first (sym c.before.starts.ensures ∙ not-true _ c.if1.true)
 
 sub-read-numbers : tie.Need-overflow-sub-read-numbers
 sub-read-numbers c = long c

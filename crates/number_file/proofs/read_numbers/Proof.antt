@@ -7,8 +7,8 @@ use mathlib.Core.Path.{◌≡◌, refl, ◌∙◌}
 use lib.ListN.{length, length-set}
 use borrow.Author.Tests.{not-true, not-false}
 use borrow.Author.Rules.{rules}
-use Rattle.logic.proofs.Stopped.{passed-not}
-use Rattle.number_file.proofs.Reader.{Reading, reading-start, no_number, number-ends, wrong_byte, digit-read, number-open, line-open, read-to-end}
+use Rattle.logic.proofs.Stopped.{passed_not}
+use Rattle.number_file.proofs.Reader.{Reading, reading_start, no_number, number_ends, wrong_byte, digit_read, number_open, line_open, read_to_end}
 use Rattle.number_file.proofs.read_numbers.Statement.{statement}
 use Rattle.number_file.proofs.read_numbers.Tie as tie
 
@@ -33,7 +33,7 @@ from-push c = c.before.before.before.before
 loop-holds : tie.Need-loop-init invariant-loop decreases-loop
 loop-holds c =
     let a = c.before.before.args in
-    (omega arith, refl, omega arith, λ e. absurd (passed-not refl e), reading-start a.bytes.now a.words.now a.first)
+    (omega arith, refl, omega arith, λ e. absurd (passed_not refl e), reading_start a.bytes.now a.words.now a.first)
 
 shared-slice-read-byte : tie.Need-shared-slice-read-byte invariant-loop decreases-loop
 shared-slice-read-byte c = search rules
@@ -66,8 +66,8 @@ loop-again c =
       omega arith,
       length-set l.words l.count l.value ∙ l.inv.1,
       omega arith,
-      λ e. absurd (passed-not refl e),
-      number-ends l.inv.4 (omega arith) c.before.if1.true (not-false _ c.if2.false) (omega arith),
+      λ e. absurd (passed_not refl e),
+      number_ends l.inv.4 (omega arith) c.before.if1.true (not-false _ c.if2.false) (omega arith),
     )
 
 push-requires : tie.Need-push-requires invariant-loop decreases-loop
@@ -98,26 +98,26 @@ loop-again-2 c =
       l.inv.1,
       omega arith,
       λ e. omega arith,
-      digit-read l.inv.4 (omega arith) p.before.if1.false p.push.result p.push.ensures _ c.before.pushed.given.1,
+      digit_read l.inv.4 (omega arith) p.before.if1.false p.push.result p.push.ensures _ c.before.pushed.given.1,
     )
 
 same-length-3 : tie.Need-same-length-3 invariant-loop decreases-loop
 same-length-3 c = c.before.before.loop.invariant.1
 
 returns-3 : tie.Need-returns-3 invariant-loop decreases-loop
-returns-3 c = number-open c.before.before.loop.invariant.4 (omega arith) c.if3.true
+returns-3 c = number_open c.before.before.loop.invariant.4 (omega arith) c.if3.true
 
 same-length-4 : tie.Need-same-length-4 invariant-loop decreases-loop
 same-length-4 c = c.before.before.before.loop.invariant.1
 
 returns-4 : tie.Need-returns-4 invariant-loop decreases-loop
-returns-4 c = line-open c.before.before.before.loop.invariant.4 (omega arith) c.before.if3.false c.if4.true
+returns-4 c = line_open c.before.before.before.loop.invariant.4 (omega arith) c.before.if3.false c.if4.true
 
 same-length-5 : tie.Need-same-length-5 invariant-loop decreases-loop
 same-length-5 c = c.before.before.before.loop.invariant.1
 
 returns-5 : tie.Need-returns-5 invariant-loop decreases-loop
-returns-5 c = read-to-end c.before.before.before.loop.invariant.4 (omega arith) c.before.if3.false c.if4.false
+returns-5 c = read_to_end c.before.before.before.loop.invariant.4 (omega arith) c.before.if3.false c.if4.false
 
 pub read-numbers-spec : {M : Type 1} → statement M
 read-numbers-spec =

@@ -5,7 +5,7 @@ use mathlib.Core.Path.{◌≡◌, refl}
 use lib.ListN.{length, drop}
 use borrow.Author.Rules.{rules}
 use Rattle.number_file.specs.NumberFile.{starts_with}
-use Rattle.number_file.proofs.Reader.{too_short, differs, agrees, all-agree}
+use Rattle.number_file.proofs.Reader.{too_short, differs, agrees, all_agree}
 use Rattle.number_file.proofs.starts.Statement.{statement}
 use Rattle.number_file.proofs.starts.Tie as tie
 
@@ -54,7 +54,7 @@ returns-3 : tie.Need-returns-3 invariant-loop decreases-loop
 returns-3 c =
     let l = c.before.loop in
     let a = c.before.before.args in
-    all-agree a.heading.now a.bytes.now l.i l.invariant.1 (omega arith)
+    all_agree a.heading.now a.bytes.now l.i l.invariant.1 (omega arith)
 
 pub starts-spec : {M : Type 1} → statement M
 starts-spec =

@@ -7,7 +7,7 @@ use native.Mathlib.Omega.{arith}
 use lib.Seq.{paste, paste-zero}
 use lib.ListN.{length, drop, length-drop, length-set}
 use borrow.Author.Rules.{rules}
-use Rattle.words.proofs.Lists.{copy-turn, paste-written}
+use Rattle.words.proofs.Lists.{copy_turn, paste_written}
 use Rattle.parts.proofs.copy.Statement.{statement}
 use Rattle.parts.proofs.copy.Tie as tie
 
@@ -51,7 +51,7 @@ loop-again c =
     let l = c.before.before in
     let a = l.before.args in (
       omega arith,
-      copy-turn a.out.now l.loop.out a.src.now a.to a.at l.loop.i l.loop.invariant.1 (omega arith) (omega arith),
+      copy_turn a.out.now l.loop.out a.src.now a.to a.at l.loop.i l.loop.invariant.1 (omega arith) (omega arith),
       simp
           length-set l.loop.invariant.2,
     )
@@ -65,7 +65,7 @@ returns c =
     let d : List ℕ = drop a.at a.src.now in
     let l = length-drop a.at a.src.now in
     c.before.loop.invariant.1 ∙ ap (paste a.out.now a.to d) (let e : c.before.loop.i ≡ a.n = omega arith in e)
-    ∙ paste-written a.out.now a.to d a.n (omega arith)
+    ∙ paste_written a.out.now a.to d a.n (omega arith)
 
 pub copy_spec : {M : Type 1} → statement M
 copy_spec =

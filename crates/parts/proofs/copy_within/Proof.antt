@@ -8,7 +8,7 @@ use native.Mathlib.Omega.{arith}
 use lib.ListN.{length, drop, set, get_or, length-drop, length-set}
 use lib.Seq.{paste, paste-zero}
 use borrow.Author.Rules.{rules}
-use Rattle.words.proofs.Lists.{copy-turn, copy-reads, paste-written}
+use Rattle.words.proofs.Lists.{copy_turn, copy_reads, paste_written}
 use Rattle.parts.proofs.copy_within.Statement.{statement}
 use Rattle.parts.proofs.copy_within.Tie as tie
 
@@ -51,10 +51,10 @@ loop-again c =
     let a = l.before.args in
     let p = l.before.requires in
     let r = ap (λ (m : List ℕ). get_or m (a.at + l.loop.i) 0) l.loop.invariant.1
-    ∙ copy-reads a.words.now a.at a.n a.to l.loop.i p c.before.loop-test.true in (
+    ∙ copy_reads a.words.now a.at a.n a.to l.loop.i p c.before.loop-test.true in (
       omega arith,
       ap (set l.loop.words (a.to + l.loop.i)) r
-          ∙ copy-turn a.words.now l.loop.words a.words.now a.to a.at l.loop.i l.loop.invariant.1 (omega arith) (omega arith),
+          ∙ copy_turn a.words.now l.loop.words a.words.now a.to a.at l.loop.i l.loop.invariant.1 (omega arith) (omega arith),
       simp
           length-set l.loop.invariant.2,
     )
@@ -68,7 +68,7 @@ returns c =
     let d : List ℕ = drop a.at a.words.now in
     let l = length-drop a.at a.words.now in
     c.before.loop.invariant.1 ∙ ap (paste a.words.now a.to d) (let e : c.before.loop.i ≡ a.n = omega arith in e)
-    ∙ paste-written a.words.now a.to d a.n (omega arith)
+    ∙ paste_written a.words.now a.to d a.n (omega arith)
 
 pub copy-within-spec : {M : Type 1} → statement M
 copy-within-spec =

@@ -5,10 +5,10 @@ use native.Mathlib.Omega.{arith}
 use lib.ListN.{length}
 use borrow.Author.Rules.{rules}
 use Rattle.logic.specs.Term.{Term, size}
-use Rattle.logic.proofs.Words.{size-pos}
+use Rattle.logic.proofs.Words.{size_pos}
 use Rattle.words.specs.Place.{At}
-use Rattle.words.proofs.Places.{at-end}
-use Rattle.words.proofs.Rows.{TermsLeft, left-start, left-few, left-none, left-next}
+use Rattle.words.proofs.Places.{at_end}
+use Rattle.words.proofs.Rows.{TermsLeft, left_start, left_few, left_none, left_next}
 use Rattle.parts.proofs.skip.Statement.{statement}
 use Rattle.parts.proofs.skip.Tie as tie
 
@@ -21,9 +21,9 @@ decreases-loop words at next₀ count₀ next count = length words - next
 loop-holds : tie.Need-loop-init invariant-loop decreases-loop
 loop-holds c =
     let h = c.before.requires.here in
-    let e = at-end h in
-    let p = size-pos c.before.requires.term in
-    (omega arith, λ t g. left-start g)
+    let e = at_end h in
+    let p = size_pos c.before.requires.term in
+    (omega arith, λ t g. left_start g)
 
 sub-count : tie.Need-overflow-sub-count invariant-loop decreases-loop
 sub-count c = search rules
@@ -54,13 +54,13 @@ loop-again c =
     let l = c.before.before.before.loop in
     let s = c.before.before.before.before.before in
     let more : (t : Term) → At s.args.words.now s.args.at t → TermsLeft s.args.words.now (l.next + 1) (l.count - 1 + c.children.result)
-    (s.args.at + size t) = λ t g. left-next c.children.result c.before.before.loop-test.true c.children.ensures (l.invariant.1 t g) in
-    let e = at-end s.requires.here in
-    let f = left-few (more s.requires.term s.requires.here) in
+    (s.args.at + size t) = λ t g. left_next c.children.result c.before.before.loop-test.true c.children.ensures (l.invariant.1 t g) in
+    let e = at_end s.requires.here in
+    let f = left_few (more s.requires.term s.requires.here) in
     (omega arith, more)
 
 returns : tie.Need-returns invariant-loop decreases-loop
-returns c = λ t h. left-none (c.before.loop.invariant.1 t h) c.loop-test.false
+returns c = λ t h. left_none (c.before.loop.invariant.1 t h) c.loop-test.false
 
 pub skip-spec : {M : Type 1} → statement M
 skip-spec =

@@ -5,14 +5,14 @@ use mathlib.Core.List.{List, []}
 use native.Mathlib.Omega.{arith}
 use lib.Seq.{length-take-le}
 use borrow.Author.Rules.{rules}
-use Rattle.register.specs.Records.{Ask, ask-of}
-use Rattle.register.specs.Calls.{Lent, request-own, view, outline-of}
-use Rattle.search.proofs.Search.{header-there}
-use Rattle.buckets.proofs.Buckets.{empty-buckets}
+use Rattle.register.specs.Records.{Ask, ask_of}
+use Rattle.register.specs.Calls.{Lent, request_own, view, outline_of}
+use Rattle.search.proofs.Search.{header_there}
+use Rattle.buckets.proofs.Buckets.{empty_buckets}
 use Rattle.shared_tests.specs.Shared.{lent_of}
-use Rattle.shared_tests.proofs.OwnTests.{PassedSo, not-prepared, passed-so, table-within}
+use Rattle.shared_tests.proofs.OwnTests.{PassedSo, not_prepared, passed_so, table_within}
 use Rattle.request.specs.Requested.{Seen}
-use Rattle.request.proofs.Grants.{behind-none, none_before}
+use Rattle.request.proofs.Grants.{behind_none, none_before}
 use Rattle.request.proofs.grantable.Statement.{statement}
 use Rattle.request.proofs.grantable.Tie as tie
 
@@ -35,19 +35,19 @@ abbrev lent-here : tie.Start → Lent
 lent-here s = lent_of s.args.sig.now s.args.n s.args.ws.now
 
 abbrev asked_here : tie.Start → Ask
-asked_here s = let a = s.args in ask-of a.operation a.extract a.delivery a.day a.proof.now
+asked_here s = let a = s.args in ask_of a.operation a.extract a.delivery a.day a.proof.now
 
 -- the shared tests passed
 passed : (c : tie.After-known-told2) →
     let at-prepare = prepared c in
     let s = start at-prepare in
     PassedSo (lent-here s) s.args.register.now at-prepare.prepare.last.1.1.1.0 at-prepare.prepare.result
-    (request-own (asked_here s)) at-prepare.prepare.ensures c.before.ready2.given.0.0
+    (request_own (asked_here s)) at-prepare.prepare.ensures c.before.ready2.given.0.0
 passed c =
     let at-prepare = prepared c in
     let s = start at-prepare in
-    passed-so (lent-here s) s.args.register.now at-prepare.prepare.last.1.1.1.0 at-prepare.prepare.result
-    (request-own (asked_here s)) at-prepare.prepare.ensures _ c.before.ready2.given.1
+    passed_so (lent-here s) s.args.register.now at-prepare.prepare.last.1.1.1.0 at-prepare.prepare.result
+    (request_own (asked_here s)) at-prepare.prepare.ensures _ c.before.ready2.given.1
 
 -- ---- the needs
 
@@ -64,19 +64,19 @@ enum-known-ready-2 : tie.Need-enum-known-ready-2
 enum-known-ready-2 c = search rules
 
 view-of-requires : tie.Need-view-of-requires
-view-of-requires c κs = (passed c).lent-so.not-shorter
+view-of-requires c κs = (passed c).lent_so.not_shorter
 
 array-share-prefix-table : tie.Need-array-share-prefix-table
 array-share-prefix-table c =
     let told = c.before in
     let S = passed told in
-    table-within (lent-here (start (prepared told))) _ _ S.Σ S.counted S.constants
+    table_within (lent-here (start (prepared told))) _ _ S.Σ S.counted S.constants
 
 slice-aggregate-request-tests : tie.Need-slice-aggregate-request-tests
 slice-aggregate-request-tests c =
     let told = c.before.before in
     let S = passed told in
-    sym (length-take-le _ _ (table-within (lent-here (start (prepared told))) _ _ S.Σ S.counted S.constants))
+    sym (length-take-le _ _ (table_within (lent-here (start (prepared told))) _ _ S.Σ S.counted S.constants))
 
 slice-aggregate-request-tests-2 : tie.Need-slice-aggregate-request-tests-2
 slice-aggregate-request-tests-2 c = search rules
@@ -94,11 +94,11 @@ request-tests-requires c κs =
       content = S.content;
       requests = [];
       seen = none_before s.args.register.now s.args.proof.now s.args.day S.content v.view_of.ensures S.reads;
-      bucketed = empty-buckets v.view_of.result.source s.args.register.now 1 (omega arith);
+      bucketed = empty_buckets v.view_of.result.source s.args.register.now 1 (omega arith);
       Σ = S.Σ;
       constants = S.constants;
-      operations = S.lent-so.operations;
-      workspace = omega (arith, S.lent-so.workspace, (prepared told).prepare.kept.1.1.1.1.0);
+      operations = S.lent_so.operations;
+      workspace = omega (arith, S.lent_so.workspace, (prepared told).prepare.kept.1.1.1.1.0);
     }
 
 same_length : tie.Need-same-length
@@ -108,7 +108,7 @@ returns : tie.Need-returns
 returns c =
     let at-prepare = (let at-ws = c.before.before.before.before in at-ws.before.before) in
     let s = start at-prepare in
-    sym (not-prepared (lent-here s) s.args.register.now _ at-prepare.prepare.result (request-own (asked_here s)) at-prepare.prepare.ensures
+    sym (not_prepared (lent-here s) s.args.register.now _ at-prepare.prepare.result (request_own (asked_here s)) at-prepare.prepare.ensures
     _ _ c.before.ready.given.1)
 
 same-length-2 : tie.Need-same-length-2
@@ -124,9 +124,9 @@ returns-2 c =
     let k = asked_here s in
     let S = passed told in
     let reg = s.args.register.now in
-    r.request-tests.ensures l S.Σ S.content [] refl S.constants
+    r.request_tests.ensures l S.Σ S.content [] refl S.constants
     (none_before reg s.args.proof.now s.args.day S.content v.view_of.ensures S.reads)
-    ∙ ap (request-own k) (behind-none s.args.day (view l (outline-of reg) S.content S.Σ)) ∙ sym S.is
+    ∙ ap (request_own k) (behind_none s.args.day (view l (outline_of reg) S.content S.Σ)) ∙ sym S.is
 
 pub grantable-spec : {M : Type 1} → statement M
 grantable-spec =

@@ -1,8 +1,8 @@
 -- Nothing is written before the last test has passed.
-use Rattle.register.specs.Records.{Ask, ask-of}
+use Rattle.register.specs.Records.{Ask, ask_of}
 use Rattle.register.specs.Calls.{Lent}
 use Rattle.shared_tests.specs.Shared.{lent_of}
-use Rattle.request.proofs.Grants.{request-kept, grantable-now, grant-room, granted-so, request-granted}
+use Rattle.request.proofs.Grants.{request_kept, grantable_now, grant_room, granted_so, request_granted}
 use native.Mathlib.Omega.{arith}
 use borrow.Author.Rules.{rules}
 use Rattle.request.proofs.request.Statement.{statement}
@@ -14,7 +14,7 @@ lent-here s = lent_of s.args.sig.now s.args.n s.args.ws.now
 
 -- what is asked
 abbrev asked : tie.Start → Ask
-asked s = ask-of s.args.operation s.args.extract s.args.delivery s.args.day s.args.proof.now
+asked s = ask_of s.args.operation s.args.extract s.args.delivery s.args.day s.args.proof.now
 
 grantable-requires : tie.Need-grantable-requires
 grantable-requires c κs = search rules
@@ -45,9 +45,9 @@ before-match-keys1 c = c.before.before.before
 returns : tie.Need-returns
 returns c =
     let at-grantable = c.before.before.before.before in
-    let at-start = before-slice-known (before-grantable at-grantable) in
-    let a = at-start.args in
-    request-kept (lent-here at-start) a.register.now (asked at-start)
+    let at_start = before-slice-known (before-grantable at-grantable) in
+    let a = at_start.args in
+    request_kept (lent-here at_start) a.register.now (asked at_start)
     at-grantable.grantable.result at-grantable.grantable.ensures _ _ c.enum-told2.given.1
 
 add-grant-requires : tie.Need-add-grant-requires
@@ -55,13 +55,13 @@ add-grant-requires c κs =
     let at-grantable = c.before.before.before.before.before in
     let s = before-slice-known (before-grantable at-grantable) in
     let a = s.args in
-    let e = granted-so (lent-here s) a.register.now (asked s) at-grantable.grantable.result
+    let e = granted_so (lent-here s) a.register.now (asked s) at-grantable.grantable.result
     at-grantable.grantable.ensures c.before.enum_told.given.1 in
-    let G = grantable-now (lent-here s) a.register.now (asked s) e in (
+    let G = grantable_now (lent-here s) a.register.now (asked s) e in (
       omega (arith, G.operation, G.proof.ready.not_more),
       G.extract,
       G.delivery,
-      grant-room (lent-here s) a.register.now (asked s) e,
+      grant_room (lent-here s) a.register.now (asked s) e,
     )
 
 same-length-3 : tie.Need-same-length-3
@@ -75,7 +75,7 @@ returns-2 c =
     let at-grantable = before-match-keys1 c.before.before.before.before.before in
     let s = before-slice-known (before-grantable at-grantable) in
     let a = s.args in
-    request-granted (lent-here s) a.register.now (asked s) at-grantable.grantable.result
+    request_granted (lent-here s) a.register.now (asked s) at-grantable.grantable.result
     at-grantable.grantable.ensures c.before.before.before.before.enum_told.given.1 _ c.before.before.add-grant.ensures
 
 pub request-spec : {M : Type 1} → statement M

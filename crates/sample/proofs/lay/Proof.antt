@@ -33,7 +33,7 @@ rem-out : tie.Need-nonzero-rem-out invariant-loop decreases-loop
 rem-out c = search rules
 
 mul-out-2 : tie.Need-overflow-mul-out-2 invariant-loop decreases-loop
-mul-out-2 c = let h = mod-lt c.before.before.before.loop.i c.if2.true in omega (arith, c.before.before.before.before.well-formed.0)
+mul-out-2 c = let h = mod-lt c.before.before.before.loop.i c.if2.true in omega (arith, c.before.before.before.before.well_formed.0)
 
 shared-slice-read-out-2 : tie.Need-shared-slice-read-out-2 invariant-loop decreases-loop
 shared-slice-read-out-2 c = mod-lt c.before.before.before.before.loop.i c.before.if2.true

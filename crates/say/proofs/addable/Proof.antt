@@ -4,11 +4,11 @@ use mathlib.Core.Path.{◌≡◌, ap}
 use native.Mathlib.Omega.{arith}
 use lib.ListN.{length}
 use borrow.Author.Rules.{rules}
-use Rattle.register.specs.Records.{Statement, statement-of, used}
+use Rattle.register.specs.Records.{Statement, statement_of, used}
 use Rattle.search.specs.declared.view.View.{View}
-use Rattle.records.proofs.Items.{records-there}
-use Rattle.search.proofs.Search.{reads-view, header-there}
-use Rattle.say.proofs.Statements.{say-missed, say-repeated, say-full, say-enough}
+use Rattle.records.proofs.Items.{records_there}
+use Rattle.search.proofs.Search.{reads_view, header_there}
+use Rattle.say.proofs.Statements.{say_missed, say_repeated, say_full, say_enough}
 use Rattle.say.proofs.addable.Statement.{statement}
 use Rattle.say.proofs.addable.Tie as tie
 
@@ -27,7 +27,7 @@ sought c = c.before.before.before
 -- ---- what holds there
 
 abbrev said : tie.Start → Statement
-said s = statement-of s.args.principal s.args.first s.args.last s.args.proposition.now
+said s = statement_of s.args.principal s.args.first s.args.last s.args.proposition.now
 
 -- the view is the register's
 record Seen (c : tie.After-view-of) : Type 0 where
@@ -42,19 +42,19 @@ seen c =
     record {
       size = ap (λ (v : View). v.size) e;
       used-words = ap (λ (v : View). v.used) e;
-      within = (records-there s.args.register.now s.pre.content s.pre.reads).within;
+      within = (records_there s.args.register.now s.pre.content s.pre.reads).within;
     }
 
 -- ---- the needs
 
 view-of-requires : tie.Need-view-of-requires
-view-of-requires c κs = let s = c.before.before in header-there s.args.register.now s.requires.reads
+view-of-requires c κs = let s = c.before.before in header_there s.args.register.now s.requires.reads
 
 first-miss-requires : tie.Need-first-miss-requires
 first-miss-requires c κs =
     let s = start c in
     let p = s.pre in (
-      record { found = p.content.records; reads = reads-view s.args.register.now c.view_of.ensures p.reads },
+      record { found = p.content.records; reads = reads_view s.args.register.now c.view_of.ensures p.reads },
       record { term = p.term; is = p.is },
     )
 
@@ -67,8 +67,8 @@ returns c =
     let v = viewed f in
     let s = start v in
     λ l Σ d q g i.
-    say-missed l Σ d s.args.register.now s.args.day (said s) q f.first-miss.result
-    (f.first-miss.ensures d.records q (reads-view s.args.register.now v.view_of.ensures g) i) _ _ c.before.miss.given.1
+    say_missed l Σ d s.args.register.now s.args.day (said s) q f.first_miss.result
+    (f.first_miss.ensures d.records q (reads_view s.args.register.now v.view_of.ensures g) i) _ _ c.before.miss.given.1
 
 enum_told : tie.Need-enum-told
 enum_told c = search rules
@@ -77,7 +77,7 @@ stands-requires : tie.Need-stands-requires
 stands-requires c κs =
     let v = viewed c.before.before in
     let s = start v in
-    record { found = s.pre.content.records; reads = reads-view s.args.register.now v.view_of.ensures s.pre.reads }
+    record { found = s.pre.content.records; reads = reads_view s.args.register.now v.view_of.ensures s.pre.reads }
 
 returns-2 : tie.Need-returns-2
 returns-2 c =
@@ -86,8 +86,8 @@ returns-2 c =
     let v = viewed f in
     let s = start v in
     λ l Σ d q g i.
-    let k = reads-view s.args.register.now v.view_of.ensures g in
-    say-repeated l Σ d s.args.register.now s.args.day (said s) q f.first-miss.result (f.first-miss.ensures d.records q k i)
+    let k = reads_view s.args.register.now v.view_of.ensures g in
+    say_repeated l Σ d s.args.register.now s.args.day (said s) q f.first_miss.result (f.first_miss.ensures d.records q k i)
     h.before.enum_told.given.1 h.stands.result (h.stands.ensures d.records k) c.if1.true
 
 sub-if2 : tie.Need-overflow-sub-if2
@@ -105,8 +105,8 @@ returns-3 c =
     let s = start v in
     let e = seen v in
     λ l Σ d q g i.
-    let k = reads-view s.args.register.now v.view_of.ensures g in
-    say-full l Σ d s.args.register.now s.args.day (said s) q f.first-miss.result (f.first-miss.ensures d.records q k i)
+    let k = reads_view s.args.register.now v.view_of.ensures g in
+    say_full l Σ d s.args.register.now s.args.day (said s) q f.first_miss.result (f.first_miss.ensures d.records q k i)
     h.before.enum_told.given.1 h.stands.result (h.stands.ensures d.records k) n.if1.false
     (omega (arith, c.if2.true, e.size, e.used-words))
 
@@ -119,8 +119,8 @@ returns-4 c =
     let s = start v in
     let e = seen v in
     λ l Σ d q g i.
-    let k = reads-view s.args.register.now v.view_of.ensures g in
-    say-enough l Σ d s.args.register.now s.args.day (said s) q f.first-miss.result (f.first-miss.ensures d.records q k i)
+    let k = reads_view s.args.register.now v.view_of.ensures g in
+    say_enough l Σ d s.args.register.now s.args.day (said s) q f.first_miss.result (f.first_miss.ensures d.records q k i)
     h.before.enum_told.given.1 h.stands.result (h.stands.ensures d.records k) n.if1.false
     e.within (omega (arith, c.if2.false, e.size, e.used-words))
 

@@ -1,8 +1,8 @@
 -- Nothing is written before the last test has passed.
-use Rattle.register.specs.Records.{Statement, statement-of}
+use Rattle.register.specs.Records.{Statement, statement_of}
 use Rattle.register.specs.Calls.{Lent}
 use Rattle.shared_tests.specs.Shared.{lent_of}
-use Rattle.say.proofs.Statements.{say-room, say-added, held-room, say-held, say-kept}
+use Rattle.say.proofs.Statements.{say_room, say_added, held_room, say_held, say_kept}
 use borrow.Author.Rules.{rules}
 use Rattle.say.proofs.say.Statement.{statement}
 use Rattle.say.proofs.say.Tie as tie
@@ -13,7 +13,7 @@ lent-here s = lent_of s.args.sig.now s.args.n s.args.ws.now
 
 -- what is said
 abbrev said : tie.Start → Statement
-said s = statement-of s.args.principal s.args.first s.args.last s.args.proposition.now
+said s = statement_of s.args.principal s.args.first s.args.last s.args.proposition.now
 
 sayable-requires : tie.Need-sayable-requires
 sayable-requires c κs = search rules
@@ -38,9 +38,9 @@ before-match-keys2 c = c.before.before.before
 add-statement-requires : tie.Need-add-statement-requires
 add-statement-requires c κs =
     let at-sayable = c.before.before.before.before.before in
-    let at-start = before-slice-known (before-sayable at-sayable) in
-    let a = at-start.args in
-    say-room (lent-here at-start) a.register.now a.day (said at-start) at-sayable.sayable.result at-sayable.sayable.ensures
+    let at_start = before-slice-known (before-sayable at-sayable) in
+    let a = at_start.args in
+    say_room (lent-here at_start) a.register.now a.day (said at_start) at-sayable.sayable.result at-sayable.sayable.ensures
     c.before.enum_told.given.1
 
 enum-told-2 : tie.Need-enum-told-2
@@ -49,9 +49,9 @@ enum-told-2 c = search rules
 set-latest-requires : tie.Need-set-latest-requires
 set-latest-requires c κs =
     let at-sayable = c.before.before.before.before.before in
-    let at-start = before-slice-known (before-sayable at-sayable) in
-    let a = at-start.args in
-    held-room (lent-here at-start) a.register.now a.day (said at-start) at-sayable.sayable.result at-sayable.sayable.ensures
+    let at_start = before-slice-known (before-sayable at-sayable) in
+    let a = at_start.args in
+    held_room (lent-here at_start) a.register.now a.day (said at_start) at-sayable.sayable.result at-sayable.sayable.ensures
     c.before.enum-told2.given.1
 
 enum-known-tested : tie.Need-enum-known-tested
@@ -66,9 +66,9 @@ same-length-2 c = search rules
 returns : tie.Need-returns
 returns c =
     let at-sayable = before-match-keys1 c.before.before.before.before.before in
-    let at-start = before-slice-known (before-sayable at-sayable) in
-    let a = at-start.args in
-    say-added (lent-here at-start) a.register.now a.day (said at-start) at-sayable.sayable.result
+    let at_start = before-slice-known (before-sayable at-sayable) in
+    let a = at_start.args in
+    say_added (lent-here at_start) a.register.now a.day (said at_start) at-sayable.sayable.result
     at-sayable.sayable.ensures c.before.before.before.before.enum_told.given.1 _ c.before.before.add-statement.ensures
 
 same-length-3 : tie.Need-same-length-3
@@ -80,9 +80,9 @@ same-length-4 c = search rules
 returns-2 : tie.Need-returns-2
 returns-2 c =
     let at-sayable = before-match-keys2 c.before.before.before.before.before in
-    let at-start = before-slice-known (before-sayable at-sayable) in
-    let a = at-start.args in
-    say-held (lent-here at-start) a.register.now a.day (said at-start) at-sayable.sayable.result
+    let at_start = before-slice-known (before-sayable at-sayable) in
+    let a = at_start.args in
+    say_held (lent-here at_start) a.register.now a.day (said at_start) at-sayable.sayable.result
     at-sayable.sayable.ensures c.before.before.before.before.enum-told2.given.1 _ c.before.before.set-latest.ensures
 
 same-length-5 : tie.Need-same-length-5
@@ -94,9 +94,9 @@ same-length-6 c = search rules
 returns-3 : tie.Need-returns-3
 returns-3 c =
     let at-sayable = c.before.before.before.before.before in
-    let at-start = before-slice-known (before-sayable at-sayable) in
-    let a = at-start.args in
-    say-kept (lent-here at-start) a.register.now a.day (said at-start) at-sayable.sayable.result
+    let at_start = before-slice-known (before-sayable at-sayable) in
+    let a = at_start.args in
+    say_kept (lent-here at_start) a.register.now a.day (said at_start) at-sayable.sayable.result
     at-sayable.sayable.ensures _ _ c.before.tested.given.1
 
 pub say-spec : {M : Type 1} → statement M

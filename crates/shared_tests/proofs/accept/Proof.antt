@@ -1,8 +1,8 @@
 -- `accept` makes tests 4 and 5: it reads the signature and tests its permits and receipts.
 use mathlib.Core.Path.{sym}
 use lib.Seq.{length-take-le}
-use Rattle.shared_tests.proofs.SharedTests.{signature-bad, operations-fit, operations-unfit}
-use Rattle.signature.proofs.Accepted.{ConstantsRead, constants-read, count-within}
+use Rattle.shared_tests.proofs.SharedTests.{signature_bad, operations_fit, operations_unfit}
+use Rattle.signature.proofs.Accepted.{ConstantsRead, constants_read, count_within}
 use borrow.Author.Rules.{rules}
 use Rattle.shared_tests.proofs.accept.Statement.{statement}
 use Rattle.shared_tests.proofs.accept.Tie as tie
@@ -27,12 +27,12 @@ before-match-keys2 c = c.before.before.before.before.before
 -- the constants that were read
 found : (c : tie.After-listed2) →
     let at-read-signature = before-table c.before.before.before.before.before in
-    let at-start = before-shared-slice-known (before-read-signature at-read-signature) in
-    ConstantsRead at-start.args.sig.now at-read-signature.read-signature.last.1.0 c.listed2.given.0.0
+    let at_start = before-shared-slice-known (before-read-signature at-read-signature) in
+    ConstantsRead at_start.args.sig.now at-read-signature.read-signature.last.1.0 c.listed2.given.0.0
 found c =
     let at-read-signature = before-table c.before.before.before.before.before in
-    let at-start = before-shared-slice-known (before-read-signature at-read-signature) in
-    constants-read at-start.args.sig.now at-read-signature.read-signature.last.1.0 c.listed2.given.0.0
+    let at_start = before-shared-slice-known (before-read-signature at-read-signature) in
+    constants_read at_start.args.sig.now at-read-signature.read-signature.last.1.0 c.listed2.given.0.0
     at-read-signature.read-signature.result at-read-signature.read-signature.ensures c.listed2.given.1
 
 read-signature-requires : tie.Need-read-signature-requires
@@ -47,20 +47,20 @@ enum-known-listed-2 c = search rules
 slice-reshare-prefix-operations : tie.Need-slice-reshare-prefix-operations
 slice-reshare-prefix-operations c =
     let at-read-signature = before-ws c.before.before.before.before in
-    let at-start = before-shared-slice-known (before-read-signature at-read-signature) in
-    let C = found c.before in count-within at-start.args.sig.now at-read-signature.read-signature.last.1.0 c.before.listed2.given.0.0 C
+    let at_start = before-shared-slice-known (before-read-signature at-read-signature) in
+    let C = found c.before in count_within at_start.args.sig.now at-read-signature.read-signature.last.1.0 c.before.listed2.given.0.0 C
 
 slice-aggregate-operations : tie.Need-slice-aggregate-operations
 slice-aggregate-operations c =
     let at-read-signature = before-ws c.before.before.before.before.before in
-    let at-start = before-shared-slice-known (before-read-signature at-read-signature) in
+    let at_start = before-shared-slice-known (before-read-signature at-read-signature) in
     let C = found c.before.before in
     sym
     (length-take-le c.before.before.listed2.given.0.0 at-read-signature.read-signature.last.1.0
-    (count-within at-start.args.sig.now at-read-signature.read-signature.last.1.0 c.before.before.listed2.given.0.0 C))
+    (count_within at_start.args.sig.now at-read-signature.read-signature.last.1.0 c.before.before.listed2.given.0.0 C))
 
 operations-requires : tie.Need-operations-requires
-operations-requires c κs = let C = found c.before.before in record { Σ = C.Σ; declared = C.constants-are.declared }
+operations-requires c κs = let C = found c.before.before in record { Σ = C.Σ; declared = C.constants_are.declared }
 
 same_length : tie.Need-same-length
 same_length c = search rules
@@ -72,7 +72,7 @@ returns : tie.Need-returns
 returns c =
     let at-read-signature = before-ws c.before.before.before.before in
     let s = before-shared-slice-known (before-read-signature at-read-signature) in
-    signature-bad s.args.sig.now _ s.args.n _ at-read-signature.read-signature.result at-read-signature.read-signature.ensures
+    signature_bad s.args.sig.now _ s.args.n _ at-read-signature.read-signature.result at-read-signature.read-signature.ensures
     c.before.listed.given.1
 
 same-length-3 : tie.Need-same-length-3
@@ -86,9 +86,9 @@ returns-2 c =
     let at-read-signature = before-match-keys2 c.before.before.before.before.before in
     let s = before-shared-slice-known (before-read-signature at-read-signature) in
     let C = found c.before.before.before.before in
-    operations-fit s.args.sig.now at-read-signature.read-signature.last.1.0 s.args.n
+    operations_fit s.args.sig.now at-read-signature.read-signature.last.1.0 s.args.n
     c.before.before.before.before.listed2.given.0.0 C c.before.operations.result
-    (c.before.operations.ensures C.Σ C.constants-are.declared) c.if1.true
+    (c.before.operations.ensures C.Σ C.constants_are.declared) c.if1.true
 
 same-length-5 : tie.Need-same-length-5
 same-length-5 c = search rules
@@ -101,9 +101,9 @@ returns-3 c =
     let at-read-signature = before-match-keys2 c.before.before.before.before.before in
     let s = before-shared-slice-known (before-read-signature at-read-signature) in
     let C = found c.before.before.before.before in
-    operations-unfit s.args.sig.now at-read-signature.read-signature.last.1.0 s.args.n
+    operations_unfit s.args.sig.now at-read-signature.read-signature.last.1.0 s.args.n
     c.before.before.before.before.listed2.given.0.0 C c.before.operations.result
-    (c.before.operations.ensures C.Σ C.constants-are.declared) c.if1.false
+    (c.before.operations.ensures C.Σ C.constants_are.declared) c.if1.false
 
 pub accept-spec : {M : Type 1} → statement M
 accept-spec =

@@ -2,7 +2,7 @@
 use mathlib.Core.Path.{sym, ◌∙◌}
 use lib.ListN.{length}
 use Rattle.shared_tests.specs.Shared.{lent_of}
-use Rattle.shared_tests.proofs.SharedTests.{Lengths, lengths-fine, prepared-refused, prepared-broken, prepared-as}
+use Rattle.shared_tests.proofs.SharedTests.{Lengths, lengths_fine, prepared_refused, prepared_broken, prepared_as}
 use borrow.Author.Rules.{rules}
 use Rattle.shared_tests.proofs.prepare.Statement.{statement}
 use Rattle.shared_tests.proofs.prepare.Tie as tie
@@ -26,11 +26,11 @@ before-accept c = c.before.before.before
 
 -- tests 1 and 2 passed
 fine : (c : tie.Else1) →
-    let at-start = before-shared-slice-known (before-else1 c) in
-    Lengths (length at-start.args.ws.now) (length at-start.args.register.now)
+    let at_start = before-shared-slice-known (before-else1 c) in
+    Lengths (length at_start.args.ws.now) (length at_start.args.register.now)
 fine c =
-    let at-start = before-shared-slice-known (before-else1 c) in
-    lengths-fine (length at-start.args.ws.now) (length at-start.args.register.now) (sym c.if1.false ∙ c.before.lengths.ensures)
+    let at_start = before-shared-slice-known (before-else1 c) in
+    lengths_fine (length at_start.args.ws.now) (length at_start.args.register.now) (sym c.if1.false ∙ c.before.lengths.ensures)
 
 lengths-requires : tie.Need-lengths-requires
 lengths-requires c κs = search rules
@@ -39,7 +39,7 @@ returns : tie.Need-returns
 returns c =
     let s = before-shared-slice-known c.before.before.before.before.before in
     let a = s.args in
-    prepared-refused (lent_of a.sig.now a.n a.ws.now) a.register.now a.table.now c.before.lengths.result
+    prepared_refused (lent_of a.sig.now a.n a.ws.now) a.register.now a.table.now c.before.lengths.result
     c.before.lengths.ensures c.if1.true
 
 walk-requires : tie.Need-walk-requires
@@ -54,7 +54,7 @@ returns-2 c =
     let at-else1 = before-walk at-walk in
     let s = before-shared-slice-known (before-else1 at-else1) in
     let a = s.args in
-    prepared-broken (lent_of a.sig.now a.n a.ws.now) a.register.now a.table.now at-walk.walk.result (fine at-else1)
+    prepared_broken (lent_of a.sig.now a.n a.ws.now) a.register.now a.table.now at-walk.walk.result (fine at-else1)
     at-walk.walk.ensures c.enum_told.given.1
 
 enum-told-2 : tie.Need-enum-told-2
@@ -63,8 +63,8 @@ enum-told-2 c = search rules
 accept-requires : tie.Need-accept-requires
 accept-requires c κs =
     let at-else1 = before-walk (before-enum-told2 c.before.before) in
-    let at-start = before-shared-slice-known (before-else1 at-else1) in
-    let L = fine at-else1 in record { entries = at-start.pre; workspace = L.workspace-fits }
+    let at_start = before-shared-slice-known (before-else1 at-else1) in
+    let L = fine at-else1 in record { entries = at_start.pre; workspace = L.workspace_fits }
 
 same_length : tie.Need-same-length
 same_length c = search rules
@@ -80,7 +80,7 @@ returns-3 c =
     let at-else1 = before-walk at-walk in
     let s = before-shared-slice-known (before-else1 at-else1) in
     let a = s.args in
-    prepared-as (lent_of a.sig.now a.n a.ws.now) a.register.now _ at-walk.walk.result (fine at-else1)
+    prepared_as (lent_of a.sig.now a.n a.ws.now) a.register.now _ at-walk.walk.result (fine at-else1)
     at-walk.walk.ensures _ at-accept.accept.result at-enum-told2.enum-told2.given.1 at-accept.accept.ensures
 
 pub prepare-spec : {M : Type 1} → statement M

@@ -1,7 +1,7 @@
 -- A receipt among the requests' serves; else the look_up in the list tells.
 use Rattle.register.specs.Records.{statements}
 use Rattle.sought.specs.Sought.{sought}
-use Rattle.signs.proofs.Receipts.{receipt-serves, no-receipt-serves}
+use Rattle.signs.proofs.Receipts.{receipt_serves, no_receipt_serves}
 use borrow.Author.Rules.{rules}
 use Rattle.signs.proofs.find_behind.Statement.{statement}
 use Rattle.signs.proofs.find_behind.Tie as tie
@@ -17,7 +17,7 @@ returns : tie.Need-returns
 returns c =
     let told = c.before.receipted in
     let a = (start c.before).args in
-    λ rs ks f b. receipt-serves (sought a.when (statements rs)) a.principal a.words.now ks told.result (told.ensures ks b) c.if1.true
+    λ rs ks f b. receipt_serves (sought a.when (statements rs)) a.principal a.words.now ks told.result (told.ensures ks b) c.if1.true
 
 look-up-requires : tie.Need-look-up-requires
 look-up-requires c κs = search rules
@@ -27,7 +27,7 @@ returns-2 c =
     let other = c.before in
     let told = other.before.receipted in
     let a = (start other.before).args in
-    λ rs ks f b. no-receipt-serves (sought a.when (statements rs)) a.principal a.words.now ks told.result (told.ensures ks b) other.if1.false
+    λ rs ks f b. no_receipt_serves (sought a.when (statements rs)) a.principal a.words.now ks told.result (told.ensures ks b) other.if1.false
     (c.look_up.ensures rs f)
 
 pub find-behind-spec : {M : Type 1} → statement M

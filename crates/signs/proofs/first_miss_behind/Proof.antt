@@ -7,14 +7,14 @@ use native.Mathlib.Omega.{arith}
 use lib.ListN.{length}
 use borrow.Author.Rules.{rules}
 use Rattle.words.specs.Place.{Stands}
-use Rattle.words.proofs.Places.{at-end}
+use Rattle.words.proofs.Places.{at_end}
 use Rattle.register.specs.Calls.{Holding}
-use Rattle.signs.proofs.Scans.{Scanning, scanning-start, scanning-other, scanning-sign, scanning-next, scanning-found, scanning-end, Behind, held-behind}
+use Rattle.signs.proofs.Scans.{Scanning, scanning_start, scanning_other, scanning_sign, scanning_next, scanning_found, scanning_end, Behind, held_behind}
 use Rattle.signs.proofs.first_miss_behind.Statement.{statement}
 use Rattle.signs.proofs.first_miss_behind.Tie as tie
 
 abbrev invariant-loop : tie.invariant-loop
-invariant-loop source list buckets asked term when i₀ i = (i ≤ length term) × Scanning (Behind source list asked) (held-behind when) term i
+invariant-loop source list buckets asked term when i₀ i = (i ≤ length term) × Scanning (Behind source list asked) (held_behind when) term i
 
 abbrev decreases-loop : tie.decreases-loop
 decreases-loop source list buckets asked term when i₀ i = length term - i
@@ -29,7 +29,7 @@ abbrev Looked : tie.Start invariant-loop decreases-loop → Type 0
 Looked s = Behind s.args.source s.args.list.now s.args.asked.now
 
 abbrev held : (s : tie.Start invariant-loop decreases-loop) → Looked s → Holding
-held s = held-behind s.args.when
+held s = held_behind s.args.when
 
 abbrev turn : tie.After-kind invariant-loop decreases-loop → tie.In-loop invariant-loop decreases-loop
 turn c = c.before.before
@@ -41,7 +41,7 @@ kind-read c = c.before.before
 loop-holds : tie.Need-loop-init invariant-loop decreases-loop
 loop-holds c =
     let s = c.before.before.before.before in
-    (omega arith, scanning-start (Looked s) (held s) s.args.term.now)
+    (omega arith, scanning_start (Looked s) (held s) s.args.term.now)
 
 mul-word : tie.Need-overflow-mul-word invariant-loop decreases-loop
 mul-word c = search rules
@@ -58,18 +58,18 @@ add_start c = search rules
 -- a Sign stands at the word
 signed : (c : tie.Then1 invariant-loop decreases-loop) →
     let at-loop = (turn c.before).before in
-    let at-start = start at-loop in
-    Stands at-start.args.term.now (at-loop.loop.i + 1)
+    let at_start = start at-loop in
+    Stands at_start.args.term.now (at-loop.loop.i + 1)
 signed c =
-    let at-kind = c.before in
-    let in-loop = turn at-kind in
+    let at_kind = c.before in
+    let in-loop = turn at_kind in
     let at-loop = in-loop.before in
     let s = start at-loop in
     let l = at-loop.loop in
     let p = s.pre in
     let b : Looked s = record { records = p.0.found; requests = p.2.asked; reads = p.0.reads; asked = p.2.before } in
-    scanning-sign (Looked s) (held s) s.args.term.now l.i b p.3 l.inv.1 in-loop.loop-test.taken
-    (sym at-kind.kind.ensures ∙ c.if1.true)
+    scanning_sign (Looked s) (held s) s.args.term.now l.i b p.3 l.inv.1 in-loop.loop-test.taken
+    (sym at_kind.kind.ensures ∙ c.if1.true)
 
 skip-requires : tie.Need-skip-requires invariant-loop decreases-loop
 skip-requires c κs = signed c
@@ -83,7 +83,7 @@ within : (c : tie.After-skip invariant-loop decreases-loop) → WithinTerm c
 within c =
     let s = signed c.before in
     let e = c.skip.ensures s.term s.here in
-    record { low = omega arith; high = omega (arith, at-end s.here) }
+    record { low = omega arith; high = omega (arith, at_end s.here) }
 
 payload-of-requires : tie.Need-payload-of-requires invariant-loop decreases-loop
 payload-of-requires c κs = search rules
@@ -110,17 +110,17 @@ returns : tie.Need-returns invariant-loop decreases-loop
 returns c =
     let at-find = c.before.before in
     let found = at-find.find-behind in
-    let at-payload = at-find.before.before in
-    let at-skip = at-payload.before in
-    let at-kind = kind-read at-skip in
-    let in-loop = turn at-kind in
+    let at_payload = at-find.before.before in
+    let at-skip = at_payload.before in
+    let at_kind = kind-read at-skip in
+    let in-loop = turn at_kind in
     let at-loop = in-loop.before in
     let s = start at-loop in
     let l = at-loop.loop in
     λ rs ks t f b is.
-    scanning-found (Looked s) (held s) s.args.term.now l.i at-payload.payload-of.result at-skip.skip.result found.result l.inv.1
-    in-loop.loop-test.taken (sym at-kind.kind.ensures ∙ at-skip.before.if1.true) at-payload.payload-of.ensures at-skip.skip.ensures
-    (λ x. found.ensures x.records x.requests x.reads x.asked) c.before.sign-refusal.result c.before.sign-refusal.ensures
+    scanning_found (Looked s) (held s) s.args.term.now l.i at_payload.payload_of.result at-skip.skip.result found.result l.inv.1
+    in-loop.loop-test.taken (sym at_kind.kind.ensures ∙ at-skip.before.if1.true) at_payload.payload_of.ensures at-skip.skip.ensures
+    (λ x. found.ensures x.records x.requests x.reads x.asked) c.before.sign_refusal.result c.before.sign_refusal.ensures
     c.if2.true (record { records = rs; requests = ks; reads = f; asked = b }) t is
 
 add-i : tie.Need-overflow-add-i invariant-loop decreases-loop
@@ -131,22 +131,22 @@ loop-less c = search rules
 
 loop-again : tie.Need-loop-preserved invariant-loop decreases-loop
 loop-again c =
-    let at-kind = c.before in
-    let in-loop = turn at-kind in
+    let at_kind = c.before in
+    let in-loop = turn at_kind in
     let at-loop = in-loop.before in
     let s = start at-loop in
     let l = at-loop.loop in
     ⊎_elim
     (λ w. (
       omega arith,
-      scanning-next (Looked s) (held s) s.args.term.now l.i w.2.result w.1.result w.4.result l.inv.1
-          in-loop.loop-test.taken (sym at-kind.kind.ensures ∙ w.0.taken) w.2.ensures w.1.ensures
+      scanning_next (Looked s) (held s) s.args.term.now l.i w.2.result w.1.result w.4.result l.inv.1
+          in-loop.loop-test.taken (sym at_kind.kind.ensures ∙ w.0.taken) w.2.ensures w.1.ensures
           (λ x. w.4.ensures x.records x.requests x.reads x.asked) w.5.result w.5.ensures w.6.left,
     ))
     (λ w. (
       omega arith,
-      scanning-other (Looked s) (held s) s.args.term.now l.i l.inv.1 in-loop.loop-test.taken
-          (λ e. w.left (at-kind.kind.ensures ∙ e)),
+      scanning_other (Looked s) (held s) s.args.term.now l.i l.inv.1 in-loop.loop-test.taken
+          (λ e. w.left (at_kind.kind.ensures ∙ e)),
     ))
     c.if1.branch
 
@@ -155,7 +155,7 @@ returns-2 c =
     let s = start c.before in
     let l = c.before.loop in
     λ rs ks t f b is.
-    scanning-end (Looked s) (held s) s.args.term.now l.i l.invariant.1 (omega arith) (record { records = rs; requests = ks; reads = f; asked = b }) t is
+    scanning_end (Looked s) (held s) s.args.term.now l.i l.invariant.1 (omega arith) (record { records = rs; requests = ks; reads = f; asked = b }) t is
 
 pub first-miss-behind-spec : {M : Type 1} → statement M
 first-miss-behind-spec =

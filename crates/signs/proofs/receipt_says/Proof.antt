@@ -1,7 +1,7 @@
 -- The words of the receipt are built and compared.
 use Rattle.logic.specs.Term.{encode}
-use Rattle.register.specs.Records.{ask-of, receipt-words}
-use Rattle.sought.proofs.ItemTells.{words-compared}
+use Rattle.register.specs.Records.{ask_of, receipt_words}
+use Rattle.sought.proofs.ItemTells.{words_compared}
 use borrow.Author.Rules.{rules}
 use Rattle.signs.proofs.receipt_says.Statement.{statement}
 use Rattle.signs.proofs.receipt_says.Tie as tie
@@ -32,7 +32,7 @@ unfolding encode
 returns c =
     let a = c.before.before.before.args in
     λ day proof.
-    words-compared (receipt-words (ask-of a.operation a.extract a.delivery day proof)) a.words.now c.same.result
+    words_compared (receipt_words (ask_of a.operation a.extract a.delivery day proof)) a.words.now c.same.result
     c.same.ensures
 
 pub receipt-says-spec : {M : Type 1} → statement M

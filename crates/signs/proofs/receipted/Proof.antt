@@ -3,7 +3,7 @@
 use Prim.Native.Nat.{◌-◌}
 use native.Mathlib.Omega.{arith}
 use lib.ListN.{length}
-use Rattle.signs.proofs.Receipts.{Asking, asking-start, WholeAsk, asking-whole, asking-found, asking-next, asking-end, of-another}
+use Rattle.signs.proofs.Receipts.{Asking, asking_start, WholeAsk, asking_whole, asking_found, asking_next, asking_end, of_another}
 use borrow.Author.Rules.{rules}
 use Rattle.signs.proofs.receipted.Statement.{statement}
 use Rattle.signs.proofs.receipted.Tie as tie
@@ -28,13 +28,13 @@ whole c =
     let l = c.before.loop in
     let s = start c.before in
     let a = s.args in
-    asking-whole a.asked.now l.at a.principal a.words.now l.invariant s.pre c.loop-test.true
+    asking_whole a.asked.now l.at a.principal a.words.now l.invariant s.pre c.loop-test.true
 
 returns : tie.Need-returns invariant-loop decreases-loop
-returns c = let a = c.before.before.before.args in λ ks b. of-another a.principal a.words.now ks c.if1.true
+returns c = let a = c.before.before.before.args in λ ks b. of_another a.principal a.words.now ks c.if1.true
 
 loop-holds : tie.Need-loop-init invariant-loop decreases-loop
-loop-holds c = let a = c.before.before.before.args in asking-start a.asked.now a.principal a.words.now
+loop-holds c = let a = c.before.before.before.args in asking_start a.asked.now a.principal a.words.now
 
 add-receipt-says : tie.Need-overflow-add-receipt-says invariant-loop decreases-loop
 add-receipt-says c = search rules
@@ -72,7 +72,7 @@ returns-2 c =
     let t = turn c.before in
     let l = t.before.loop in
     let a = (start t.before).args in
-    asking-found a.asked.now l.at a.principal a.words.now l.inv t.loop-test.taken t.before.before.if1.left
+    asking_found a.asked.now l.at a.principal a.words.now l.inv t.loop-test.taken t.before.before.if1.left
     said.result said.ensures c.if2.true
 
 add_at : tie.Need-overflow-add-at invariant-loop decreases-loop
@@ -103,14 +103,14 @@ loop-again c =
     let t = turn other.before in
     let l = t.before.loop in
     let a = (start t.before).args in
-    asking-next a.asked.now l.at a.principal a.words.now l.inv t.loop-test.taken t.before.before.if1.left
+    asking_next a.asked.now l.at a.principal a.words.now l.inv t.loop-test.taken t.before.before.if1.left
     said.result said.ensures other.if2.false
 
 returns-3 : tie.Need-returns-3 invariant-loop decreases-loop
 returns-3 c =
     let l = c.before.loop in
     let a = (start c.before).args in
-    asking-end a.asked.now l.at a.principal a.words.now l.invariant (omega arith)
+    asking_end a.asked.now l.at a.principal a.words.now l.invariant (omega arith)
 
 pub receipted-spec : {M : Type 1} → statement M
 receipted-spec =

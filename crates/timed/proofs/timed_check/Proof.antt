@@ -2,8 +2,8 @@
 use mathlib.Core.Path.{sym}
 use lib.ListN.{length}
 use lib.Seq.{length-take-le}
-use Rattle.signature.proofs.Accepted.{ConstantsRead, constants-read, count-within}
-use Rattle.timed.proofs.Answers.{short, bad, refused-number, typed-number}
+use Rattle.signature.proofs.Accepted.{ConstantsRead, constants_read, count_within}
+use Rattle.timed.proofs.Answers.{short, bad, refused_number, typed_number}
 use native.Mathlib.Omega.{arith}
 use borrow.Author.Rules.{rules}
 use Rattle.timed.proofs.timed_check.Statement.{statement}
@@ -26,12 +26,12 @@ before-check-term c = c.before.before.before.before
 -- the constants that were read
 found : (c : tie.After-listed) →
     let at-read-signature = before-listed c in
-    let at-start = before-else1 (before-read-signature at-read-signature) in
-    ConstantsRead at-start.args.signature.now at-read-signature.read-signature.last.1.0 c.listed.given.0.0
+    let at_start = before-else1 (before-read-signature at-read-signature) in
+    ConstantsRead at_start.args.signature.now at-read-signature.read-signature.last.1.0 c.listed.given.0.0
 found c =
     let at-read-signature = before-listed c in
-    let at-start = before-else1 (before-read-signature at-read-signature) in
-    constants-read at-start.args.signature.now at-read-signature.read-signature.last.1.0 c.listed.given.0.0
+    let at_start = before-else1 (before-read-signature at-read-signature) in
+    constants_read at_start.args.signature.now at-read-signature.read-signature.last.1.0 c.listed.given.0.0
     at-read-signature.read-signature.result at-read-signature.read-signature.ensures c.listed.given.1
 
 returns : tie.Need-returns
@@ -55,17 +55,17 @@ array-share-prefix-table : tie.Need-array-share-prefix-table
 array-share-prefix-table c =
     let at_Listed = c.before in
     let at-read-signature = before-listed at_Listed in
-    let at-start = before-else1 (before-read-signature at-read-signature) in
-    count-within at-start.args.signature.now at-read-signature.read-signature.last.1.0 at_Listed.listed.given.0.0 (found at_Listed)
+    let at_start = before-else1 (before-read-signature at-read-signature) in
+    count_within at_start.args.signature.now at-read-signature.read-signature.last.1.0 at_Listed.listed.given.0.0 (found at_Listed)
 
 slice-aggregate-check-term : tie.Need-slice-aggregate-check-term
 slice-aggregate-check-term c =
     let at_Listed = c.before.before in
     let at-read-signature = before-listed at_Listed in
-    let at-start = before-else1 (before-read-signature at-read-signature) in
+    let at_start = before-else1 (before-read-signature at-read-signature) in
     sym
     (length-take-le at_Listed.listed.given.0.0 at-read-signature.read-signature.last.1.0
-    (count-within at-start.args.signature.now at-read-signature.read-signature.last.1.0 at_Listed.listed.given.0.0
+    (count_within at_start.args.signature.now at-read-signature.read-signature.last.1.0 at_Listed.listed.given.0.0
     (found at_Listed)))
 
 check-term-requires : tie.Need-check-term-requires
@@ -76,7 +76,7 @@ check-term-requires c κs =
     let C = found at_Listed in
     record {
       Σ = C.Σ;
-      constants = C.constants-are;
+      constants = C.constants_are;
       workspace = omega (arith, at-else1.if1.left, at-read-signature.read-signature.kept.1.1.0);
       words = omega arith;
       nesting = omega arith;
@@ -95,8 +95,8 @@ returns-2 : tie.Need-returns-2
 returns-2 c =
     let at-read-signature = c.before.before.before.before.before in
     let at-else1 = before-read-signature at-read-signature in
-    let at-start = before-else1 at-else1 in
-    let a = at-start.args in
+    let at_start = before-else1 at-else1 in
+    let a = at_start.args in
     bad (length a.workspace.now) a.signature.now a.term.now at-else1.if1.left at-read-signature.read-signature.new.1.0
     at-read-signature.read-signature.result _ at-read-signature.read-signature.ensures c.enum_told.given.1
 
@@ -109,12 +109,12 @@ returns-3 c =
     let at_Listed = before-check-term at-check-term in
     let at-read-signature = before-listed at_Listed in
     let at-else1 = before-read-signature at-read-signature in
-    let at-start = before-else1 at-else1 in
-    let a = at-start.args in
+    let at_start = before-else1 at-else1 in
+    let a = at_start.args in
     let C = found at_Listed in
-    refused-number (length a.workspace.now) a.signature.now a.term.now at-else1.if1.left
-    at-read-signature.read-signature.last.1.0 at_Listed.listed.given.0.0 C _ _ at-check-term.check-term.result
-    (at-check-term.check-term.ensures C.Σ C.constants-are) _ _ c.before.type-inv.given.1
+    refused_number (length a.workspace.now) a.signature.now a.term.now at-else1.if1.left
+    at-read-signature.read-signature.last.1.0 at_Listed.listed.given.0.0 C _ _ at-check-term.check_term.result
+    (at-check-term.check_term.ensures C.Σ C.constants_are) _ _ c.before.type-inv.given.1
 
 same-length-3 : tie.Need-same-length-3
 same-length-3 c = search rules
@@ -125,11 +125,11 @@ returns-4 c =
     let at_Listed = before-check-term at-check-term in
     let at-read-signature = before-listed at_Listed in
     let at-else1 = before-read-signature at-read-signature in
-    let at-start = before-else1 at-else1 in
-    let a = at-start.args in
+    let at_start = before-else1 at-else1 in
+    let a = at_start.args in
     let C = found at_Listed in
-    typed-number (length a.workspace.now) a.signature.now a.term.now at-else1.if1.left at-read-signature.read-signature.last.1.0
-    at_Listed.listed.given.0.0 C _ _ at-check-term.check-term.result (at-check-term.check-term.ensures C.Σ C.constants-are) _ _
+    typed_number (length a.workspace.now) a.signature.now a.term.now at-else1.if1.left at-read-signature.read-signature.last.1.0
+    at_Listed.listed.given.0.0 C _ _ at-check-term.check_term.result (at-check-term.check_term.ensures C.Σ C.constants_are) _ _
     c.enum-told2.given.1
 
 pub timed-check-spec : {M : Type 1} → statement M

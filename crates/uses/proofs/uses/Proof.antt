@@ -1,6 +1,6 @@
 -- `uses` tests a term and counts by a shift by 0 in a work list, or answers 0 where no variable has such a number.
 use native.Mathlib.Omega.{arith}
-use Rattle.uses.proofs.Steps.{Tested, term-refused, term-passed, counts-none, counts-free}
+use Rattle.uses.proofs.Steps.{Tested, term_refused, term_passed, counts_none, counts_free}
 use borrow.Author.Rules.{rules}
 use Rattle.uses.proofs.uses.Statement.{statement}
 use Rattle.uses.proofs.uses.Tie as tie
@@ -17,7 +17,7 @@ tested c = c.before.before
 passed : (c : tie.After-enum-told) → Tested (start (tested c)).args.term.now
 passed c =
     let t = tested c in
-    term-passed (start t).args.from (start t).args.term.now t.term-test.result t.term-test.ensures c.enum_told.given.1
+    term_passed (start t).args.from (start t).args.term.now t.term-test.result t.term-test.ensures c.enum_told.given.1
 
 term-test-requires : tie.Need-term-test-requires
 term-test-requires c κs = search rules
@@ -28,13 +28,13 @@ enum-known-tested c = search rules
 returns : tie.Need-returns
 returns c =
     let t = c.before.before.before in
-    term-refused (start t).args.from (start t).args.term.now t.term-test.result t.term-test.ensures _ _ c.before.tested.given.1
+    term_refused (start t).args.from (start t).args.term.now t.term-test.result t.term-test.ensures _ _ c.before.tested.given.1
 
 enum_told : tie.Need-enum-told
 enum_told c = search rules
 
 returns-2 : tie.Need-returns-2
-returns-2 c = let a = (start (tested c.before)).args in counts-none a.from a.term.now (passed c.before) c.if1.true
+returns-2 c = let a = (start (tested c.before)).args in counts_none a.from a.term.now (passed c.before) c.if1.true
 
 slice-aggregate-shift-into : tie.Need-slice-aggregate-shift-into
 slice-aggregate-shift-into c = search rules
@@ -54,7 +54,7 @@ returns-3 : tie.Need-returns-3
 returns-3 c =
     let d = c.before.before.before.before in
     let a = (start (tested d)).args in
-    counts-free a.from a.term.now (passed d) c.before.shift-into.result c.before.shift-into.ensures
+    counts_free a.from a.term.now (passed d) c.before.shift-into.result c.before.shift-into.ensures
 
 pub uses-spec : {M : Type 1} → statement M
 uses-spec =

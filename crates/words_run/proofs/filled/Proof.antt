@@ -3,10 +3,10 @@
 use native.Mathlib.Omega.{arith}
 use borrow.Author.Rules.{rules}
 use Rattle.io.proofs.Counting.{prefix_len_of_le}
-use Rattle.logic.specs.Move.{fill-at}
+use Rattle.logic.specs.Move.{fill_at}
 use Rattle.words.proofs.Places.{is_at}
-use Rattle.moves.proofs.Fills.{done-is}
-use Rattle.words_run.proofs.Tested.{OneTerm, one-term}
+use Rattle.moves.proofs.Fills.{done_is}
+use Rattle.words_run.proofs.Tested.{OneTerm, one_term}
 use Rattle.words_run.proofs.filled.Statement.{statement}
 use Rattle.words_run.proofs.filled.Tie as tie
 
@@ -32,10 +32,10 @@ second c = c.before.before.before.before
 -- ---- what holds there
 
 body : (c : tie.After-first) → OneTerm (start (body-read c)).args.body.now c.first.given.0.0
-body c = one-term (start (body-read c)).args.body.now _ (body-read c).read_whole.ensures c.first.given.1
+body c = one_term (start (body-read c)).args.body.now _ (body-read c).read_whole.ensures c.first.given.1
 
 filler : (c : tie.After-second) → OneTerm (start (body-read (first c))).args.filler.now c.second.given.0.0
-filler c = one-term (start (body-read (first c))).args.filler.now _ (filler-read c).read-whole2.ensures c.second.given.1
+filler c = one_term (start (body-read (first c))).args.filler.now _ (filler-read c).read-whole2.ensures c.second.given.1
 
 -- ---- the needs
 
@@ -99,9 +99,9 @@ returns-6 c =
     let w = c.before.before.before.before.before in
     let b = body (first (second w.before)) in
     let f = filler (second w.before) in
-    let answer = (w.fill-into.ensures b.term f.term (is_at b.is) f.is).answer in
-    let was = done-is b.term (fill-at 0 f.term b.term) 0 0 _ answer _ _ c.before.done.given.1 in
-    let k = w.fill-into.auto.1.1.1.1.0 in
+    let answer = (w.fill_into.ensures b.term f.term (is_at b.is) f.is).answer in
+    let was = done_is b.term (fill_at 0 f.term b.term) 0 0 _ answer _ _ c.before.done.given.1 in
+    let k = w.fill_into.auto.1.1.1.1.0 in
     prefix_len_of_le _ _ (omega (arith, was.fits))
 
 pub filled-spec : {M : Type 1} → statement M

@@ -1,7 +1,7 @@
 -- Behind the test the words are one term, whose nesting is asked for.
 use borrow.Author.Rules.{rules}
 use Rattle.words.proofs.Places.{is_at}
-use Rattle.words_run.proofs.Tested.{one-term}
+use Rattle.words_run.proofs.Tested.{one_term}
 use Rattle.words_run.proofs.nested_whole.Statement.{statement}
 use Rattle.words_run.proofs.nested_whole.Tie as tie
 
@@ -24,7 +24,7 @@ returns c = search rules
 nested-requires : tie.Need-nested-requires
 nested-requires c κs =
     let r = c.before in
-    let h = one-term (start r).args.words.now _ r.before.before.read_whole.ensures r.read.given.1 in
+    let h = one_term (start r).args.words.now _ r.before.before.read_whole.ensures r.read.given.1 in
     record { term = h.term; here = is_at h.is }
 
 returns-2 : tie.Need-returns-2

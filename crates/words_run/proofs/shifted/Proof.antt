@@ -5,7 +5,7 @@ use mir.Syntax.{w32}
 use native.Mathlib.Omega.{arith}
 use borrow.Author.Rules.{rules}
 use Rattle.io.proofs.Counting.{prefix_len_of_le}
-use Rattle.words_run.proofs.Tested.{OneTerm, one-term, near}
+use Rattle.words_run.proofs.Tested.{OneTerm, one_term, near}
 use Rattle.words_run.proofs.shifted.Statement.{statement}
 use Rattle.words_run.proofs.shifted.Tie as tie
 
@@ -24,7 +24,7 @@ tested c = c.before.before.before
 -- ---- what holds there
 
 term : (c : tie.After-read) → OneTerm (start c).args.words.now c.read.given.0.0
-term c = one-term (start c).args.words.now _ c.before.before.read_whole.ensures c.read.given.1
+term c = one_term (start c).args.words.now _ c.before.before.read_whole.ensures c.read.given.1
 
 -- ---- the needs
 

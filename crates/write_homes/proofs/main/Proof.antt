@@ -3,7 +3,7 @@ use native.Mathlib.Omega.{arith}
 use mathlib.Core.Path.{sym}
 use lib.Seq.{length-take-le}
 use borrow.Author.Rules.{rules}
-use Rattle.decimal.proofs.Puts.{put-within}
+use Rattle.decimal.proofs.Puts.{put_within}
 use Rattle.write_homes.proofs.main.Statement.{statement}
 use Rattle.write_homes.proofs.main.Tie as tie
 
@@ -64,12 +64,12 @@ print-requires : tie.Need-print-requires
 print-requires c κs = search rules
 
 array-share-prefix-out : tie.Need-array-share-prefix-out
-array-share-prefix-out c = let w = put-within _ _ _ _ c.before.print.ensures in omega arith
+array-share-prefix-out c = let w = put_within _ _ _ _ c.before.print.ensures in omega arith
 
 slice-aggregate-write-all : tie.Need-slice-aggregate-write-all
 slice-aggregate-write-all c =
     sym (length-take-le c.before.before.print.result c.before.before.print.new.1.1.1.1.0
-    (put-within _ _ _ _ c.before.before.print.ensures))
+    (put_within _ _ _ _ c.before.before.print.ensures))
 
 write-all-requires : tie.Need-write-all-requires
 write-all-requires c κs = search rules

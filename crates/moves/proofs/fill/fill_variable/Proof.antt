@@ -9,8 +9,8 @@ use mir.Val.{to_z}
 use mir.Facts.{to_z_pos}
 use borrow.Author.Rules.{rules}
 use Rattle.logic.specs.Term.{var}
-use Rattle.words.proofs.Places.{size_is, at-within}
-use Rattle.moves.proofs.Fills.{same-done, same_over, none_over, low-done, high-done}
+use Rattle.words.proofs.Places.{size_is, at_within}
+use Rattle.moves.proofs.Fills.{same_done, same_over, none_over, low_done, high_done}
 use Rattle.moves.proofs.fill.fill_variable.Statement.{statement}
 use Rattle.moves.proofs.fill.fill_variable.Tie as tie
 
@@ -40,7 +40,7 @@ higher c = c.before.before.before
 -- ---- what holds there
 
 within : (s : tie.Start) → s.args.at < length s.args.src.now
-within s = at-within s.requires.1.here
+within s = at_within s.requires.1.here
 
 -- c, cast to an i32
 depth : (s : tie.Start) → to_z w32 s.args.c ≡ pos s.args.c
@@ -62,8 +62,8 @@ payload-of-requires c κs = search rules
 sub-if2 : tie.Need-overflow-sub-if2
 sub-if2 c = search rules
 
-cast-up : tie.Need-overflow-cast-up
-cast-up c = search rules
+cast_up : tie.Need-overflow-cast-up
+cast_up c = search rules
 
 shift-into-requires : tie.Need-shift-into-requires
 shift-into-requires c κs =
@@ -91,16 +91,16 @@ returns : tie.Need-returns
 returns c =
     let w = shifted c in
     let d = shifts w in
-    let n = (fits d).payload-of in
+    let n = (fits d).payload_of in
     let s = start (fits d) in
     let a = s.args in
-    λ m e h i. same-done a.src.now a.filler.now a.at a.c a.out.now a.to n.result s.pre.0 n.ensures m e h i _
+    λ m e h i. same_done a.src.now a.filler.now a.at a.c a.out.now a.to n.result s.pre.0 n.ensures m e h i _
     w.shift-into.result (depth s) d.if2.taken d.before.if1.taken (w.shift-into.ensures e i)
 
 returns-2 : tie.Need-returns-2
 returns-2 c =
     let d = c.before.before in
-    let n = d.payload-of in
+    let n = d.payload_of in
     let s = start d in
     let a = s.args in
     λ m e h i. same_over a.src.now a.filler.now a.at a.c a.out.now a.to n.result s.pre.0 n.ensures m e h i
@@ -128,10 +128,10 @@ same-length-2 c = search rules
 
 returns-4 : tie.Need-returns-4
 returns-4 c =
-    let n = (lower c).payload-of in
+    let n = (lower c).payload_of in
     let s = start (lower c) in
     let a = s.args in
-    λ m e h i. low-done a.src.now a.filler.now a.at a.c a.out.now a.to n.result s.pre.0 n.ensures m e h i
+    λ m e h i. low_done a.src.now a.filler.now a.at a.c a.out.now a.to n.result s.pre.0 n.ensures m e h i
     c.before.if3.false c.if4.true
 
 sub_out : tie.Need-overflow-sub-out
@@ -157,10 +157,10 @@ same-length-3 c = search rules
 
 returns-5 : tie.Need-returns-5
 returns-5 c =
-    let n = (higher c).payload-of in
+    let n = (higher c).payload_of in
     let s = start (higher c) in
     let a = s.args in
-    λ m e h i. high-done a.src.now a.filler.now a.at a.c a.out.now a.to n.result s.pre.0 n.ensures m e h i
+    λ m e h i. high_done a.src.now a.filler.now a.at a.c a.out.now a.to n.result s.pre.0 n.ensures m e h i
     c.before.if3.false c.if4.false c.before.before.if1.false
 
 pub fill-variable-spec : {M : Type 1} → statement M
@@ -171,7 +171,7 @@ fill-variable-spec =
     shared-slice-read-word
     payload-of-requires
     sub-if2
-    cast-up
+    cast_up
     shift-into-requires
     add-t21
     add-t22

@@ -14,18 +14,18 @@ use borrow.Fn.Kinds.{In}
 use borrow.Fn.PlainCycle.{Measures, is, falls, and}
 use Rattle.logic.specs.Limits.{payloads}
 use Rattle.logic.specs.Term.{Term, size}
-use Rattle.logic.specs.Kind.{kind-node}
-use Rattle.logic.proofs.Shapes.{term-kind}
+use Rattle.logic.specs.Kind.{kind_node}
+use Rattle.logic.proofs.Shapes.{term_kind}
 use Rattle.logic.proofs.word.kind.Reads as kind-reads
 use Rattle.logic.proofs.word.payload_of.Reads as payload-of-reads
-use Rattle.logic.proofs.FreeVariables.{free-size}
-use Rattle.logic.proofs.Words.{size-pos}
+use Rattle.logic.proofs.FreeVariables.{free_size}
+use Rattle.logic.proofs.Words.{size_pos}
 use Rattle.words.specs.Place.{At}
-use Rattle.words.proofs.Places.{at-kind, at-end, Halves, halves, at-within}
+use Rattle.words.proofs.Places.{at_kind, at_end, Halves, halves, at_within}
 use Rattle.parts.proofs.skip.Reads as skip-reads
 use Rattle.moves.specs.Shift.{Shifted}
-use Rattle.moves.proofs.Cases.{variable-case, node-case}
-use Rattle.moves.proofs.Shifts.{bound-shifted, var-shifted, kept-shifted, second-stands, node-shifted}
+use Rattle.moves.proofs.Cases.{variable_case, node_case}
+use Rattle.moves.proofs.Shifts.{bound_shifted, var_shifted, kept_shifted, second_stands, node_shifted}
 use Rattle.moves.proofs.shift.moved.Reads as moved-reads
 use Rattle.moves.proofs.shift.shift_within.Reads as shift-within
 use Rattle.moves.proofs.shift.shift_within.Kinds as kinds
@@ -113,7 +113,7 @@ module _ (t : ℕ) where
   -- ---- what holds there
 
   within : (s : Start) → s.args.at < length s.args.words.now
-  within s = at-within s.requires.1.here
+  within s = at_within s.requires.1.here
 
   -- an i32 that is handed on is read back from its bits
   amount : (s : Start) → to_z w32 (of_z w32 s.args.amount) ≡ s.args.amount
@@ -123,8 +123,8 @@ module _ (t : ℕ) where
   near s = rw (amount s) s.requires.1.near
 
   -- the kind that was found is that of any term that stands there
-  kind-known : (c : Known) (u : Term) → At (start c).args.words.now (start c).args.at u → c.kind.result ≡ term-kind u
-  kind-known c u h = c.kind.ensures ∙ at-kind h
+  kind-known : (c : Known) (u : Term) → At (start c).args.words.now (start c).args.at u → c.kind.result ≡ term_kind u
+  kind-known c u h = c.kind.ensures ∙ at_kind h
 
   -- the children of the node that stands there
   node : (c : Node) → let k = known c in let s = start k in Halves s.args.words.now s.args.at k.kind.result s.pre.1.term
@@ -144,26 +144,26 @@ module _ (t : ℕ) where
   second c =
       let s = first-start c in
       let n = node (as-node c) in
-      second-stands s.args.words.now _ s.args.at s.args.c c.shift-within.result _ n.first n.second (within s)
+      second_stands s.args.words.now _ s.args.at s.args.c c.shift-within.result _ n.first n.second (within s)
       (first-shifted c) n.right
 
   -- it ends within the list
   second-end : (c : First) →
       let s = first-start c in s.args.at + 1 + c.shift-within.result.words + size (node (as-node c)).second ≤ length s.args.words.now
-  second-end c = let n = node (as-node c) in omega (arith, at-end n.right, (first-shifted c).words_are)
+  second-end c = let n = node (as-node c) in omega (arith, at_end n.right, (first-shifted c).words_are)
 
   -- what the second child's shift wrote
   second-shifted : (c : Second) →
       let f = first (between c) in
       let a = (first-start f).args in
-      Shifted (node (as-node f)).second (a.c + ((known (as-node f)).kind.result - kind-node)) (to_z w32 (of_z w32 a.amount))
+      Shifted (node (as-node f)).second (a.c + ((known (as-node f)).kind.result - kind_node)) (to_z w32 (of_z w32 a.amount))
       f.shift-within.last.0 (a.at + 1 + f.shift-within.result.words) c.shift-within2.new.0 c.shift-within2.result
   second-shifted c = let f = first (between c) in c.shift-within2.ensures (node (as-node f)).second (second f)
 
   -- ---- the needs
 
   mul-word : lts.Need-overflow-mul-word (calls t) (given t) shift-within.Post
-  mul-word c = let r = within c.before in omega (arith, c.before.well-formed)
+  mul-word c = let r = within c.before in omega (arith, c.before.well_formed)
 
   slice-read-word : lts.Need-slice-read-word (calls t) (given t) shift-within.Post
   slice-read-word c = let r = within c.before.before in omega arith
@@ -179,8 +179,8 @@ module _ (t : ℕ) where
       let v = c.before in
       let k = known-variable v in
       let s = start k in
-      variable-case _ (kind-known k) v.before.if1.true
-      (bound-shifted s.args.words.now s.args.at s.args.c s.args.amount v.payload-of.result v.payload-of.ensures c.if2.true)
+      variable_case _ (kind-known k) v.before.if1.true
+      (bound_shifted s.args.words.now s.args.at s.args.c s.args.amount v.payload_of.result v.payload_of.ensures c.if2.true)
 
   moved-requires : lts.Need-moved-requires (calls t) (given t) shift-within.Post
   moved-requires c κs = search rules
@@ -202,9 +202,9 @@ module _ (t : ℕ) where
       let v = c.before.before in
       let k = known-variable v in
       let s = start k in
-      let p = v.payload-of in
-      variable-case _ (kind-known k) v.before.if1.true
-      (var-shifted s.args.words.now s.args.at s.args.c s.args.amount p.result (amount s) (within s) p.ensures c.before.if2.false
+      let p = v.payload_of in
+      variable_case _ (kind-known k) v.before.if1.true
+      (var_shifted s.args.words.now s.args.at s.args.c s.args.amount p.result (amount s) (within s) p.ensures c.before.if2.false
       c.moved.ensures.0)
 
   skip-requires : lts.Need-skip-requires (calls t) (given t) shift-within.Post
@@ -224,7 +224,7 @@ module _ (t : ℕ) where
       let variable-not = c.before.before.before in
       let k = variable-not.before in
       let s = start k in
-      λ u h. kept-shifted s.args.words.now s.args.at s.args.c s.args.amount k.kind.result c.skip.result
+      λ u h. kept_shifted s.args.words.now s.args.at s.args.c s.args.amount k.kind.result c.skip.result
       variable-not.if1.false (omega arith) u (kind-known k u h) h (c.skip.ensures u h)
 
   add-shift-within : lts.Need-overflow-add-shift-within (calls t) (given t) shift-within.Post
@@ -233,9 +233,9 @@ module _ (t : ℕ) where
   shift-within-requires : lts.Need-shift-within-requires (calls t) (given t) shift-within.Post
   shift-within-requires c κs =
       let s = start (known c.before) in
-      let r = at-end s.pre.1.here in
+      let r = at_end s.pre.1.here in
       let n = node c.before in
-      let a = size-pos n.first in
+      let a = size_pos n.first in
       (omega arith, record { term = n.first; here = n.left; fits = omega arith; deep = omega arith; near = omega (arith, near s) })
 
   add-shift-within-2 : lts.Need-overflow-add-shift-within-2 (calls t) (given t) shift-within.Post
@@ -253,7 +253,7 @@ module _ (t : ℕ) where
       let s = first-start f in
       let r = second-end f in
       let n = node (as-node f) in
-      let a = size-pos n.second in
+      let a = size_pos n.second in
       let k = f.shift-within.kept.0 in
       (omega arith, record { term = n.second; here = second f; fits = omega arith; deep = omega arith; near = omega (arith, near s) })
 
@@ -274,9 +274,9 @@ module _ (t : ℕ) where
       let f = first (between g) in
       let n = node (as-node f) in
       let r = second-end f in
-      let x = free-size (first-start f).args.c n.first in
-      let y = free-size ((first-start f).args.c + ((known (as-node f)).kind.result - kind-node)) n.second in
-      omega (arith, (first-shifted f).free-is, (first-shifted f).words_are, (second-shifted g).free-is, (first-start f).good)
+      let x = free_size (first-start f).args.c n.first in
+      let y = free_size ((first-start f).args.c + ((known (as-node f)).kind.result - kind_node)) n.second in
+      omega (arith, (first-shifted f).free_is, (first-shifted f).words_are, (second-shifted g).free_is, (first-start f).good)
 
   same-length-3 : lts.Need-same-length-3 (calls t) (given t) shift-within.Post
   same-length-3 c = search rules
@@ -287,8 +287,8 @@ module _ (t : ℕ) where
       let f = first (between g) in
       let k = known (as-node f) in
       let s = start k in
-      node-case _ (kind-known k) (omega arith)
-      (node-shifted s.args.words.now s.args.at s.args.c s.args.amount k.kind.result (amount s) (within s)
+      node_case _ (kind-known k) (omega arith)
+      (node_shifted s.args.words.now s.args.at s.args.c s.args.amount k.kind.result (amount s) (within s)
       f.shift-within.ensures g.shift-within2.ensures)
 
 pub +shift-within-spec : {M : Type 1} → statement M

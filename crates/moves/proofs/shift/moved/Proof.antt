@@ -1,6 +1,6 @@
 -- The sum is below 0, and the number is cut off there, or it is the number moved.
 use borrow.Author.Rules.{rules}
-use Rattle.moves.proofs.Signed.{add-fits, cast-up, moved_down, moved_up}
+use Rattle.moves.proofs.Signed.{add_fits, cast_up, moved_down, moved_up}
 use Rattle.moves.proofs.shift.moved.Statement.{statement}
 use Rattle.moves.proofs.shift.moved.Tie as tie
 
@@ -8,12 +8,12 @@ cast-m : tie.Need-overflow-cast-m
 cast-m c = search rules
 
 add-m : tie.Need-overflow-add-m
-add-m c = add-fits c.args.n c.args.amount c.requires.0 c.requires.1 c.ranges.amount
+add-m c = add_fits c.args.n c.args.amount c.requires.0 c.requires.1 c.ranges.amount
 
 cast-result : tie.Need-overflow-cast-result
 cast-result c =
     let s = c.before in
-    cast-up s.args.n s.args.amount s.requires.0 s.requires.1 s.ranges.amount c.if1.false
+    cast_up s.args.n s.args.amount s.requires.0 s.requires.1 s.ranges.amount c.if1.false
 
 returns : tie.Need-returns
 returns c =

@@ -4,8 +4,8 @@ use native.Mathlib.Omega.{arith}
 use lib.ListN.{length}
 use mir.Facts.{to_z-of_z}
 use borrow.Author.Rules.{rules}
-use Rattle.words.proofs.Places.{is_at, size_is, at-within}
-use Rattle.moves.proofs.Shifts.{copy-stands, copy-shifted}
+use Rattle.words.proofs.Places.{is_at, size_is, at_within}
+use Rattle.moves.proofs.Shifts.{copy_stands, copy_shifted}
 use Rattle.moves.proofs.shift.shift_into.Statement.{statement}
 use Rattle.moves.proofs.shift.shift_into.Tie as tie
 
@@ -19,7 +19,7 @@ copied c = c.before.before.before
 
 -- a term has a first word, and there is room for it
 inside : (s : tie.Start) → s.args.to < length s.args.out.now
-inside s = omega (arith, at-within (is_at s.requires.whole), s.requires.fits)
+inside s = omega (arith, at_within (is_at s.requires.whole), s.requires.fits)
 
 copy-requires : tie.Need-copy-requires
 copy-requires c κs = let r = inside c.before.before.before in (omega arith, omega arith)
@@ -34,7 +34,7 @@ shift-within-requires c κs =
     let k = d.copy.kept.1.1.1.0 in
     record {
       term = p.term;
-      here = copy-stands s.args.src.now s.args.out.now _ s.args.to (omega arith) d.copy.ensures p.whole;
+      here = copy_stands s.args.src.now s.args.out.now _ s.args.to (omega arith) d.copy.ensures p.whole;
       fits = omega arith;
       deep = omega arith;
       near = rw (to_z-of_z s.fits.amount) p.near;
@@ -48,7 +48,7 @@ returns c =
     let d = copied c.before.before.before in
     let s = start d in
     let r = inside s in
-    λ t i. copy-shifted s.args.src.now s.args.out.now _ s.args.to (omega arith) d.copy.ensures i
+    λ t i. copy_shifted s.args.src.now s.args.out.now _ s.args.to (omega arith) d.copy.ensures i
     (to_z-of_z s.fits.amount) c.before.before.shift-within.ensures
 
 pub shift-into-spec : {M : Type 1} → statement M

@@ -3,11 +3,11 @@ use mathlib.Core.Path.{◌≡◌, sym, ap, ◌∙◌}
 use mathlib.Core.List.{map}
 use lib.ListN.{length, take, length-map}
 use native.Mathlib.Omega.{arith}
-use Rattle.words.proofs.Lists.{written-front}
+use Rattle.words.proofs.Lists.{written_front}
 use Rattle.editions.specs.Edition.{unnamed}
 use Rattle.named.specs.Answers.{scope}
 use Rattle.editions.proofs.Scopes.{no_names}
-use Rattle.named.proofs.Calls.{TermIn, too_long, test-refused, test-passed, no-binder, short-output, all-written, whole-at}
+use Rattle.named.proofs.Calls.{TermIn, too_long, test_refused, test_passed, no_binder, short_output, all_written, whole_at}
 use borrow.Author.Rules.{rules}
 use Rattle.named.proofs.convert.convert.Statement.{statement}
 use Rattle.named.proofs.convert.convert.Tie as tie
@@ -31,10 +31,10 @@ before-convert-term c = c.before.before
 -- the words without names stand at the front of the work
 front : (c : tie.After-unnamed-words) →
     let a = (before-unnamed-words c).args in
-    take (length a.term.now) c.unnamed-words.new.1.1.0 ≡ map (unnamed a.edition) a.term.now
+    take (length a.term.now) c.unnamed_words.new.1.1.0 ≡ map (unnamed a.edition) a.term.now
 front c =
     let a = (before-unnamed-words c).args in
-    written-front _ _ (map (unnamed a.edition) a.term.now) (length a.term.now) c.unnamed-words.ensures
+    written_front _ _ (map (unnamed a.edition) a.term.now) (length a.term.now) c.unnamed_words.ensures
     (sym (length-map a.term.now (unnamed a.edition)))
 
 -- the term that passed the tests
@@ -45,7 +45,7 @@ passed c =
     let at_test = before-enum-told c in
     let at_words = before-term-test at_test in
     let a = (before-unnamed-words at_words).args in
-    test-passed a.edition a.term.now a.output.now _ (front at_words) at_test.term-test.result at_test.term-test.ensures
+    test_passed a.edition a.term.now a.output.now _ (front at_words) at_test.term-test.result at_test.term-test.ensures
     c.enum_told.given.1
 
 returns : tie.Need-returns
@@ -79,7 +79,7 @@ returns-2 c =
     let at_test = c.before.before.before in
     let at_words = before-term-test at_test in
     let a = (before-unnamed-words at_words).args in
-    test-refused a.edition a.term.now a.output.now _ (front at_words) at_test.term-test.result at_test.term-test.ensures _ _
+    test_refused a.edition a.term.now a.output.now _ (front at_words) at_test.term-test.result at_test.term-test.ensures _ _
     c.before.tested.given.1
 
 enum_told : tie.Need-enum-told
@@ -93,11 +93,11 @@ unfolding scope
 convert-term-requires c κs =
     let T = passed c.before in
     let at_words = before-term-test (before-enum-told c.before) in
-    let k = at_words.unnamed-words.kept.1.1.0 in
+    let k = at_words.unnamed_words.kept.1.1.0 in
     record {
       scoped = no_names (before-unnamed-words at_words).args.edition;
       s = T.term;
-      here = whole-at T.words;
+      here = whole_at T.words;
       room = omega (arith, at_words.before.before.if1.left);
       deep = omega (arith, T.words.nested);
     }
@@ -111,7 +111,7 @@ returns-3 c =
     let at-convert = c.before.before.before.before in
     let at_told = before-convert-term at-convert in
     let a = (before-unnamed-words (before-term-test (before-enum-told at_told))).args in
-    no-binder a.edition a.term.now a.output.now (passed at_told) _ _ at-convert.convert-term.result at-convert.convert-term.ensures _
+    no_binder a.edition a.term.now a.output.now (passed at_told) _ _ at-convert.convert-term.result at-convert.convert-term.ensures _
     c.before.ending.given.1
 
 enum-told-2 : tie.Need-enum-told-2
@@ -123,7 +123,7 @@ returns-4 c =
     let at-convert = c.before.before.before.before in
     let at_told = before-convert-term at-convert in
     let a = (before-unnamed-words (before-term-test (before-enum-told at_told))).args in
-    short-output a.edition a.term.now a.output.now (passed at_told) _ _ at-convert.convert-term.result at-convert.convert-term.ensures _
+    short_output a.edition a.term.now a.output.now (passed at_told) _ _ at-convert.convert-term.result at-convert.convert-term.ensures _
     c.before.enum-told2.given.1 c.if2.true
 
 slice-aggregate-copy : tie.Need-slice-aggregate-copy
@@ -147,7 +147,7 @@ returns-5 c =
     let at-convert = at-else2.before.before.before.before in
     let at_told = before-convert-term at-convert in
     let a = (before-unnamed-words (before-term-test (before-enum-told at_told))).args in
-    all-written a.edition a.term.now a.output.now (passed at_told) _ _ at-convert.convert-term.result at-convert.convert-term.ensures _
+    all_written a.edition a.term.now a.output.now (passed at_told) _ _ at-convert.convert-term.result at-convert.convert-term.ensures _
     at-else2.before.enum-told2.given.1 _ at-else2.if2.left at_copy.copy.ensures
 
 pub convert-spec : {M : Type 1} → statement M

@@ -1,5 +1,5 @@
 -- `unnamed` gives a word without the name that it carries as a binder.
-use Rattle.named.proofs.Clears.{binder-word, other_word}
+use Rattle.named.proofs.Clears.{binder_word, other_word}
 use borrow.Author.Rules.{rules}
 use Rattle.named.proofs.edition.unnamed.Statement.{statement}
 use Rattle.named.proofs.edition.unnamed.Tie as tie
@@ -26,7 +26,7 @@ returns-2 : tie.Need-returns-2
 returns-2 c =
     let a = c.before.before.before.before.before.args in
     let t = c.before.before.tag_of in
-    binder-word a.edition a.word t.result _ c.before.before.before.enum-told2.given.1 t.ensures c.before.binds.ensures c.if1.true
+    binder_word a.edition a.word t.result _ c.before.before.before.enum-told2.given.1 t.ensures c.before.binds.ensures c.if1.true
 
 returns-3 : tie.Need-returns-3
 returns-3 c =

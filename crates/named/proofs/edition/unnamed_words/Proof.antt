@@ -6,7 +6,7 @@ use lib.ListN.{length, length-set}
 use lib.Seq.{paste, paste-zero}
 use native.Mathlib.Omega.{arith}
 use Rattle.editions.specs.Edition.{unnamed}
-use Rattle.named.proofs.Clears.{unnamed-turn, unnamed-all}
+use Rattle.named.proofs.Clears.{unnamed_turn, unnamed_all}
 use borrow.Author.Rules.{rules}
 use Rattle.named.proofs.edition.unnamed_words.Statement.{statement}
 use Rattle.named.proofs.edition.unnamed_words.Tie as tie
@@ -52,7 +52,7 @@ loop-again c =
     let l = at-loop.loop in
     let a = (before-loop at-loop).args in (
       omega arith,
-      unnamed-turn a.edition a.out.now l.out a.words.now l.i c.unnamed.result l.invariant.1 (omega arith) (omega arith)
+      unnamed_turn a.edition a.out.now l.out a.words.now l.i c.unnamed.result l.invariant.1 (omega arith) (omega arith)
           c.unnamed.ensures,
       simp length-set l.invariant.2,
     )
@@ -64,7 +64,7 @@ returns : tie.Need-returns invariant-loop decreases-loop
 returns c =
     let l = c.before.loop in
     let a = (before-loop c.before).args in
-    unnamed-all a.edition a.out.now l.out a.words.now l.i l.invariant.1 (omega arith)
+    unnamed_all a.edition a.out.now l.out a.words.now l.i l.invariant.1 (omega arith)
 
 pub unnamed-words-spec : {M : Type 1} → statement M
 unnamed-words-spec =

@@ -3,7 +3,7 @@ use native.Mathlib.Omega.{arith}
 use borrow.Kind.Array.{good_length, e_int}
 use mir.Syntax.{w32}
 use Rattle.named.specs.Answers.{scope}
-use Rattle.named.proofs.Arrays.{scope-length, entered-binder, entered-node}
+use Rattle.named.proofs.Arrays.{scope_length, entered_binder, entered_node}
 use borrow.Author.Rules.{rules}
 use Rattle.named.proofs.scope.entered.Statement.{statement}
 use Rattle.named.proofs.scope.entered.Tie as tie
@@ -20,15 +20,15 @@ array-write-inner c = search rules
 returns : tie.Need-returns
 returns c =
     let a = c.before.before.args in
-    let n = good_length (e_int w32) 32 a.names _ c.before.before.well-formed.1.0 in
-    entered-binder a.edition a.names a.count a.k a.word c.own_name.result (omega arith) c.before.if1.true
-    (c.own_name.ensures (scope a.names a.count) (scope-length a.names a.count))
+    let n = good_length (e_int w32) 32 a.names _ c.before.before.well_formed.1.0 in
+    entered_binder a.edition a.names a.count a.k a.word c.own_name.result (omega arith) c.before.if1.true
+    (c.own_name.ensures (scope a.names a.count) (scope_length a.names a.count))
 
 returns-2 : tie.Need-returns-2
 returns-2 c =
     let a = c.before.args in
     let p = c.before.requires in
-    entered-node a.edition a.names a.count a.k a.word c.if1.false p.1 p.2
+    entered_node a.edition a.names a.count a.k a.word c.if1.false p.1 p.2
 
 pub entered-spec : {M : Type 1} → statement M
 entered-spec = tie.close (tie.spec own-name-requires mul-inner array-write-inner returns returns-2)

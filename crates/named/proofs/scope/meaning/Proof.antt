@@ -2,7 +2,7 @@
 use mathlib.Core.Path.{sym, ap, ◌∙◌}
 use Rattle.editions.specs.Convert.{meaning}
 use Rattle.named.specs.Answers.{scope}
-use Rattle.named.proofs.Arrays.{name-at, name-past}
+use Rattle.named.proofs.Arrays.{name_at, name_past}
 use borrow.Author.Rules.{rules}
 use Rattle.named.proofs.scope.meaning.Statement.{statement}
 use Rattle.named.proofs.scope.meaning.Tie as tie
@@ -36,13 +36,13 @@ returns c =
 returns-2 : tie.Need-returns-2
 returns-2 c =
     let a = c.before.before.before.args in
-    name-at a.t2 a.count a.variable c.if1.true
+    name_at a.t2 a.count a.variable c.if1.true
     ∙ sym (ap (λ e. meaning e a.variable (scope a.t2 a.count)) c.before.enum-told2.given.1)
 
 returns-3 : tie.Need-returns-3
 returns-3 c =
     let a = c.before.before.before.args in
-    name-past a.t2 a.count a.variable c.if1.false
+    name_past a.t2 a.count a.variable c.if1.false
     ∙ sym (ap (λ e. meaning e a.variable (scope a.t2 a.count)) c.before.enum-told2.given.1)
 
 pub meaning-spec : {M : Type 1} → statement M

@@ -5,7 +5,7 @@ use mathlib.Core.Path.{◌≡◌, ◌∙◌, sym, ap}
 use native.Mathlib.Omega.{arith}
 use Rattle.editions.specs.Convert.{nearest}
 use Rattle.named.specs.Answers.{scope}
-use Rattle.named.proofs.Arrays.{added, added_none, found_here, found-there, found_none}
+use Rattle.named.proofs.Arrays.{added, added_none, found_here, found_there, found_none}
 use borrow.Author.Rules.{rules}
 use Rattle.named.proofs.scope.nearest.Statement.{statement}
 use Rattle.named.proofs.scope.nearest.Tie as tie
@@ -53,7 +53,7 @@ loop-again : tie.Need-loop-preserved invariant-loop decreases-loop
 loop-again c =
     let l = c.before.before.loop in
     let a = c.before.before.before.args in
-    (omega arith, l.invariant.1 ∙ found-there a.t1 a.count l.i a.name c.before.loop-test.true l.invariant.0 c.if1.false)
+    (omega arith, l.invariant.1 ∙ found_there a.t1 a.count l.i a.name c.before.loop-test.true l.invariant.0 c.if1.false)
 
 returns-2 : tie.Need-returns-2 invariant-loop decreases-loop
 returns-2 c =

@@ -2,7 +2,7 @@
 use mathlib.Core.Path.{sym, ap, ◌∙◌}
 use mathlib.Core.Bool.{true}
 use mathlib.Core.List.{◌∷◌}
-use Rattle.logic.specs.Term.{payload-of}
+use Rattle.logic.specs.Term.{payload_of}
 use Rattle.editions.specs.Convert.{enter}
 use borrow.Author.Rules.{rules}
 use Rattle.named.proofs.scope.own_name.Statement.{statement}
@@ -23,12 +23,12 @@ cast-result c = search rules
 returns : tie.Need-returns
 returns c =
     let a = c.before.before.before.args in
-    λ ns l. ap (λ e. enter e true (payload-of a.word) ns) c.before.enum_told.given.1 ∙ ap (λ x. x ∷ ns) (sym c.payload-of.ensures)
+    λ ns l. ap (λ e. enter e true (payload_of a.word) ns) c.before.enum_told.given.1 ∙ ap (λ x. x ∷ ns) (sym c.payload_of.ensures)
 
 returns-2 : tie.Need-returns-2
 returns-2 c =
     let a = c.before.before.args in
-    λ ns l. ap (λ e. enter e true (payload-of a.word) ns) c.enum-told2.given.1 ∙ ap (λ x. x ∷ ns) l
+    λ ns l. ap (λ e. enter e true (payload_of a.word) ns) c.enum-told2.given.1 ∙ ap (λ x. x ∷ ns) l
 
 pub own-name-spec : {M : Type 1} → statement M
 own-name-spec =

@@ -1,5 +1,5 @@
 -- `relabelled` gives a node's word in the other edition.
-use Rattle.named.proofs.Arrays.{relabelled-names, relabelled-counts, relabelled-other}
+use Rattle.named.proofs.Arrays.{relabelled_names, relabelled_counts, relabelled_other}
 use borrow.Author.Rules.{rules}
 use Rattle.named.proofs.scope.relabelled.Statement.{statement}
 use Rattle.named.proofs.scope.relabelled.Tie as tie
@@ -17,7 +17,7 @@ returns : tie.Need-returns
 returns c =
     let a = c.before.before.before.before.args in
     let t = c.before.before.tag_of in
-    λ ns l. relabelled-names a.edition a.k a.word t.result ns c.enum_told.given.1 c.before.before.before.if1.true t.ensures
+    λ ns l. relabelled_names a.edition a.k a.word t.result ns c.enum_told.given.1 c.before.before.before.if1.true t.ensures
 
 enum-told-2 : tie.Need-enum-told-2
 enum-told-2 c = search rules
@@ -32,13 +32,13 @@ returns-2 : tie.Need-returns-2
 returns-2 c =
     let a = c.before.before.before.before.args in
     let t = c.before.before.tag_of in
-    λ ns l. relabelled-counts a.edition a.k a.word t.result a.count ns c.enum-told2.given.1
+    λ ns l. relabelled_counts a.edition a.k a.word t.result a.count ns c.enum-told2.given.1
     c.before.before.before.if1.true t.ensures l
 
 returns-3 : tie.Need-returns-3
 returns-3 c =
     let a = c.before.args in
-    λ ns l. relabelled-other a.edition a.k a.word ns c.if1.false
+    λ ns l. relabelled_other a.edition a.k a.word ns c.if1.false
 
 pub relabelled-spec : {M : Type 1} → statement M
 relabelled-spec =

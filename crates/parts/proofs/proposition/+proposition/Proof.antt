@@ -8,7 +8,7 @@ use borrow.Author.Rules.{rules}
 use borrow.Fn.Kinds.{In}
 use borrow.Fn.PlainCycle.{Measures, is, falls, and}
 use Rattle.words.specs.Typed.{TypeAt}
-use Rattle.words.proofs.Types.{PiAt, pi-at, no-pi, type-within}
+use Rattle.words.proofs.Types.{PiAt, pi_at, no_pi, type_within}
 use Rattle.parts.proofs.proposition.proposition.Reads as proposition
 use Rattle.parts.proofs.proposition.proposition.Kinds as kinds
 use Rattle.parts.proofs.proposition.+proposition.Lts-proposition as lts
@@ -33,14 +33,14 @@ abbrev calls : ℕ → lts.Claims
 calls t = (tag-of-reads.Asked, tag-of-reads.Learnt, skip-reads.Asked, skip-reads.Learnt, below t, proposition.Post)
 
 within : (t : ℕ) (s : lts.Start (calls t) (given t) proposition.Post) → s.args.at < length s.args.words.now
-within t s = type-within s.requires.1.here
+within t s = type_within s.requires.1.here
 
 -- the parts of the Pi that stands there
 pi : (t : ℕ) (c : lts.Then1 (calls t) (given t) proposition.Post) →
     PiAt c.before.before.before.before.args.words.now c.before.before.before.before.args.at c.before.before.before.before.requires.1.type
 pi t c =
     let s = c.before.before.before.before in
-    pi-at s.args.words.now s.args.at _ s.requires.1.type c.before.tag_of.ensures s.requires.1.here c.if1.true
+    pi_at s.args.words.now s.args.at _ s.requires.1.type c.before.tag_of.ensures s.requires.1.here c.if1.true
 
 mul-tag-of : (t : ℕ) → lts.Need-overflow-mul-tag-of (calls t) (given t) proposition.Post
 mul-tag-of t c = let r = within t c.before in omega arith
@@ -75,27 +75,27 @@ returns t c =
     let at-tag-of = c.before.before.before in
     let s = before-tag-of t at-tag-of in
     let a = s.args in
-    λ A h. let p = pi-at a.words.now a.at _ A at-tag-of.tag_of.ensures h c.before.before.if1.true in
+    λ A h. let p = pi_at a.words.now a.at _ A at-tag-of.tag_of.ensures h c.before.before.if1.true in
     let e = c.before.skip.ensures p.domain p.left in
     c.proposition.ensures p.body (subst (λ (j : ℕ). TypeAt a.words.now j p.body) (sym e) p.right) ∙ sym p.same
 
 returns-2 : (t : ℕ) → lts.Need-returns-2 (calls t) (given t) proposition.Post
 returns-2 t c =
     let s = c.before.before.before.before.before in
-    λ A h. no-pi s.args.words.now s.args.at _ A _ c.before.before.tag_of.ensures h c.before.if1.false (simp c.if2.true)
+    λ A h. no_pi s.args.words.now s.args.at _ A _ c.before.before.tag_of.ensures h c.before.if1.false (simp c.if2.true)
 
 returns-3 : (t : ℕ) → lts.Need-returns-3 (calls t) (given t) proposition.Post
 returns-3 t c =
     let at-tag-of = c.before.before.before in
     let s = before-tag-of t at-tag-of in
-    λ A h. no-pi s.args.words.now s.args.at _ A _ at-tag-of.tag_of.ensures h c.before.before.if1.false
+    λ A h. no_pi s.args.words.now s.args.at _ A _ at-tag-of.tag_of.ensures h c.before.before.if1.false
     (simp (c.before.if2.false, c.if3.true))
 
 returns-4 : (t : ℕ) → lts.Need-returns-4 (calls t) (given t) proposition.Post
 returns-4 t c =
     let at-tag-of = c.before.before.before in
     let s = before-tag-of t at-tag-of in
-    λ A h. no-pi s.args.words.now s.args.at _ A _ at-tag-of.tag_of.ensures h c.before.before.if1.false
+    λ A h. no_pi s.args.words.now s.args.at _ A _ at-tag-of.tag_of.ensures h c.before.before.if1.false
     (simp (c.before.if2.false, c.if3.false))
 
 pub +proposition-spec : {M : Type 1} → statement M

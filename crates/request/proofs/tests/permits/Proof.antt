@@ -2,8 +2,8 @@
 use mathlib.Core.Path.{refl, sym}
 use lib.Seq.{length-take-le}
 use Rattle.logic.specs.Term.{encode}
-use Rattle.register.specs.Records.{ask-of}
-use Rattle.request.proofs.Grants.{permission-found}
+use Rattle.register.specs.Records.{ask_of}
+use Rattle.request.proofs.Grants.{permission_found}
 use borrow.Author.Rules.{rules}
 use Rattle.request.proofs.tests.permits.Statement.{statement}
 use Rattle.request.proofs.tests.permits.Tie as tie
@@ -35,7 +35,7 @@ returns c =
     let s = c.before.before.before.before in
     let a = s.args in
     λ A delivery day proof T e.
-    permission-found a.ws.now _ a.n (ask-of a.operation a.extract delivery day proof) c.same.result s.requires.1 s.requires.2
+    permission_found a.ws.now _ a.n (ask_of a.operation a.extract delivery day proof) c.same.result s.requires.1 s.requires.2
     refl c.same.ensures A T e
 
 pub permits-spec : {M : Type 1} → statement M

@@ -6,13 +6,13 @@ use native.Mathlib.Omega.{arith}
 use lib.ListN.{length}
 use borrow.Author.Tests.{not-true, not-false}
 use borrow.Author.Rules.{rules}
-use Rattle.register.specs.Records.{Ask, Content, ask-of, used}
-use Rattle.register.specs.Batch.{granted-words}
+use Rattle.register.specs.Records.{Ask, Content, ask_of, used}
+use Rattle.register.specs.Batch.{granted_words}
 use Rattle.search.specs.declared.view.View.{View}
 use Rattle.search.specs.Sources.{SourceOf}
-use Rattle.search.proofs.Search.{reads-register}
+use Rattle.search.proofs.Search.{reads_register}
 use Rattle.request.specs.Requested.{Seen}
-use Rattle.request.proofs.Grants.{request-another, request-missed, request-full, request-enough}
+use Rattle.request.proofs.Grants.{request_another, request_missed, request_full, request_enough}
 use Rattle.request.proofs.tests.proves.Statement.{statement}
 use Rattle.request.proofs.tests.proves.Tie as tie
 
@@ -31,17 +31,17 @@ searched c = c.before.before.before
 -- ---- what holds there
 
 abbrev asked_here : tie.Start → ℕ → Ask
-asked_here s delivery = ask-of s.args.operation s.args.extract delivery s.args.day s.args.proof.now
+asked_here s delivery = ask_of s.args.operation s.args.extract delivery s.args.day s.args.proof.now
 
 -- the statements are sought in the register
 sought-there : {v : View} {reg asked : List ℕ} {day : ℕ} {c : Content} {ks : List Ask} → Seen v reg asked day c ks → SourceOf v.source reg c.records
-sought-there {reg} S = reads-register reg (ap (λ (x : View). x.source) S.is) S.reads
+sought-there {reg} S = reads_register reg (ap (λ (x : View). x.source) S.is) S.reads
 
 -- the sizes that the view has
 record Sizes (v : View) (reg : List ℕ) (ks : List Ask) : Type 0 where
   pub size : v.size ≡ length reg
-  pub taken : v.used ≡ used reg + granted-words ks
-  pub fits : used reg + granted-words ks ≤ length reg
+  pub taken : v.used ≡ used reg + granted_words ks
+  pub fits : used reg + granted_words ks ≤ length reg
 
 sizes : {v : View} {reg asked : List ℕ} {day : ℕ} {c : Content} {ks : List Ask} → Seen v reg asked day c ks → Sizes v reg ks
 sizes S = record { size = ap (λ (x : View). x.size) S.is; taken = ap (λ (x : View). x.used) S.is; fits = S.fits }
@@ -57,7 +57,7 @@ returns c =
     let s = start p in
     let a = s.args in
     λ l Σ d ks delivery t A S i T e.
-    request-another l Σ d a.register.now ks (asked_here s delivery) t A p.permits.result
+    request_another l Σ d a.register.now ks (asked_here s delivery) t A p.permits.result
     (p.permits.ensures A delivery a.day a.proof.now T e) (not-true _ c.if1.true)
 
 first-miss-behind-requires : tie.Need-first-miss-behind-requires
@@ -79,7 +79,7 @@ returns-2 c =
     let s = start p in
     let a = s.args in
     λ l Σ d ks delivery t A S i T e.
-    request-missed l Σ d a.register.now ks (asked_here s delivery) t A p.permits.result
+    request_missed l Σ d a.register.now ks (asked_here s delivery) t A p.permits.result
     (p.permits.ensures A delivery a.day a.proof.now T e) (not-false _ f.before.if1.false)
     f.first-miss-behind.result (f.first-miss-behind.ensures d.records ks t (sought-there S) S.before i) _ _ c.before.miss.given.1
 
@@ -100,7 +100,7 @@ returns-3 c =
     let a = s.args in
     λ l Σ d ks delivery t A S i T e.
     let n = sizes S in
-    request-full l Σ d a.register.now ks (asked_here s delivery) t A p.permits.result
+    request_full l Σ d a.register.now ks (asked_here s delivery) t A p.permits.result
     (p.permits.ensures A delivery a.day a.proof.now T e) (not-false _ f.before.if1.left)
     f.first-miss-behind.result (f.first-miss-behind.ensures d.records ks t (sought-there S) S.before i)
     c.before.before.enum_told.given.1 (omega (arith, c.if2.true, n.size, n.taken))
@@ -113,7 +113,7 @@ returns-4 c =
     let a = s.args in
     λ l Σ d ks delivery t A S i T e.
     let n = sizes S in
-    request-enough l Σ d a.register.now ks (asked_here s delivery) t A p.permits.result
+    request_enough l Σ d a.register.now ks (asked_here s delivery) t A p.permits.result
     (p.permits.ensures A delivery a.day a.proof.now T e) (not-false _ f.before.if1.left)
     f.first-miss-behind.result (f.first-miss-behind.ensures d.records ks t (sought-there S) S.before i)
     c.before.before.enum_told.given.1 n.fits (omega (arith, c.if2.false, n.size, n.taken))

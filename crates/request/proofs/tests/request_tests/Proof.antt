@@ -6,15 +6,15 @@ use native.Mathlib.Omega.{arith}
 use borrow.Author.Tests.{not-true, not-false}
 use borrow.Author.Rules.{rules}
 use Rattle.logic.specs.Limits.{payloads}
-use Rattle.register.specs.Records.{Ask, Content, ask-of}
-use Rattle.register.specs.Calls.{Lent, ask-test}
-use Rattle.register.specs.Batch.{day-if}
+use Rattle.register.specs.Records.{Ask, Content, ask_of}
+use Rattle.register.specs.Calls.{Lent, ask_test}
+use Rattle.register.specs.Batch.{day_if}
 use Rattle.search.specs.declared.view.View.{View}
 use Rattle.shared_tests.specs.Shared.{lent_of}
-use Rattle.shared_tests.proofs.SharedTests.{latest-read}
-use Rattle.shared_tests.proofs.OwnTests.{typed-so, type-found, words-within}
+use Rattle.shared_tests.proofs.SharedTests.{latest_read}
+use Rattle.shared_tests.proofs.OwnTests.{typed_so, type_found, words_within}
 use Rattle.request.specs.Requested.{Seen}
-use Rattle.request.proofs.Grants.{bad-numbers, in-range-numbers, request-late, request-not-typed, proved}
+use Rattle.request.proofs.Grants.{bad_numbers, in_range_numbers, request_late, request_not_typed, proved}
 use Rattle.request.proofs.tests.request_tests.Statement.{statement}
 use Rattle.request.proofs.tests.request_tests.Tie as tie
 
@@ -37,17 +37,17 @@ known c = c.before.before.before.before
 
 -- what is asked
 abbrev asked_here : tie.Start → Ask
-asked_here s = let a = s.args in ask-of a.operation a.extract a.delivery a.day a.proof.now
+asked_here s = let a = s.args in ask_of a.operation a.extract a.delivery a.day a.proof.now
 
 -- what the test of the numbers tells, for a call with this n
-fine : (p : tie.After-numbers) (n : ℕ) → n ≡ (start p).args.n → p.numbers.result ≡ ask-test n (asked_here (start p))
+fine : (p : tie.After-numbers) (n : ℕ) → n ≡ (start p).args.n → p.numbers.result ≡ ask_test n (asked_here (start p))
 fine p n e =
     let s = start p in
-    p.numbers.ensures s.args.day s.args.proof.now ∙ ap (λ n. ask-test n (asked_here s)) (sym e)
+    p.numbers.ensures s.args.day s.args.proof.now ∙ ap (λ n. ask_test n (asked_here s)) (sym e)
 
 -- the latest day is that behind the requests before
-latest-seen : {v : View} {reg asked : List ℕ} {day : ℕ} {c : Content} {ks : List Ask} → Seen v reg asked day c ks → v.latest ≡ day-if ks c.latest day
-latest-seen {reg} {day} {c} {ks} S = ap (λ (x : View). x.latest) S.is ∙ ap (λ (d : ℕ). day-if ks d day) (latest-read reg c S.reads)
+latest-seen : {v : View} {reg asked : List ℕ} {day : ℕ} {c : Content} {ks : List Ask} → Seen v reg asked day c ks → v.latest ≡ day_if ks c.latest day
+latest-seen {reg} {day} {c} {ks} S = ap (λ (x : View). x.latest) S.is ∙ ap (λ (d : ℕ). day_if ks d day) (latest_read reg c S.reads)
 
 -- ---- the needs
 
@@ -59,7 +59,7 @@ returns c =
     let p = c.before in
     let s = start p in
     λ l Σ d ks e C S.
-    bad-numbers l Σ d s.args.register.now ks (asked_here s) p.numbers.result
+    bad_numbers l Σ d s.args.register.now ks (asked_here s) p.numbers.result
     (fine p l.n e) (not-true _ c.if1.true)
 
 returns-2 : tie.Need-returns-2
@@ -67,7 +67,7 @@ returns-2 c =
     let p = c.before.before.before in
     let s = start p in
     λ l Σ d ks e C S.
-    request-late l Σ d s.args.register.now ks (asked_here s) p.numbers.result
+    request_late l Σ d s.args.register.now ks (asked_here s) p.numbers.result
     (fine p l.n e) (not-false _ c.before.before.if1.false)
     (omega (arith, c.if2.true, latest-seen S))
 
@@ -90,11 +90,11 @@ proves-requires c κs =
     let s = start p in
     let q = s.pre in
     let l = lent_of s.args.sig.now s.args.n s.args.ws.now in
-    let N = in-range-numbers l q.Σ q.content s.args.register.now q.requests (asked_here s) p.numbers.result
+    let N = in_range_numbers l q.Σ q.content s.args.register.now q.requests (asked_here s) p.numbers.result
     (p.numbers.ensures s.args.day s.args.proof.now) (not-false _ (timed w).before.before.if1.left) in
-    let J = w.check-term.ensures q.Σ q.constants in
-    let T = type-found _ _ _ _ _ _ J y.typed2.given.1 in
-    let D = typed-so q.Σ s.args.proof.now T.type T.is in
+    let J = w.check_term.ensures q.Σ q.constants in
+    let T = type_found _ _ _ _ _ _ J y.typed2.given.1 in
+    let D = typed_so q.Σ s.args.proof.now T.type T.is in
     record {
       content = q.content;
       requests = q.requests;
@@ -104,7 +104,7 @@ proves-requires c κs =
       is = D.term_is;
       operation = omega (arith, N.0, q.operations);
       extract = N.1;
-      inside = words-within _ _ _ _ J _ _ y.typed2.given.1;
+      inside = words_within _ _ _ _ J _ _ y.typed2.given.1;
       short = D.short;
     }
 
@@ -117,9 +117,9 @@ returns-3 c =
     let p = numbered (timed w) in
     let s = start p in
     λ l Σ d ks e C S.
-    request-not-typed l Σ d s.args.register.now ks (asked_here s) p.numbers.result
+    request_not_typed l Σ d s.args.register.now ks (asked_here s) p.numbers.result
     (fine p l.n e) (not-false _ (timed w).before.before.if1.false)
-    (omega (arith, (timed w).if2.false, latest-seen S)) _ w.check-term.result (w.check-term.ensures Σ C) _ _ c.before.type-inv.given.1
+    (omega (arith, (timed w).if2.false, latest-seen S)) _ w.check_term.result (w.check_term.ensures Σ C) _ _ c.before.type-inv.given.1
 
 same-length-2 : tie.Need-same-length-2
 same-length-2 c = search rules
@@ -133,7 +133,7 @@ returns-4 c =
     λ l Σ d ks e C S.
     proved l Σ d s.args.register.now ks (asked_here s) p.numbers.result
     (fine p l.n e) (not-false _ (timed w).before.before.if1.left)
-    (omega (arith, (timed w).if2.left, latest-seen S)) _ w.check-term.result (w.check-term.ensures Σ C) _ _ y.typed2.given.1
+    (omega (arith, (timed w).if2.left, latest-seen S)) _ w.check_term.result (w.check_term.ensures Σ C) _ _ y.typed2.given.1
     c.proves.result (λ t A i T n. c.proves.ensures l Σ d ks s.args.delivery t A S i T n)
 
 pub request-tests-spec : {M : Type 1} → statement M

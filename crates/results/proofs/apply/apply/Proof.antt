@@ -6,26 +6,26 @@ use mathlib.Core.Path.{◌≡◌, refl}
 use lib.ListN.{length, take, drop, replicate}
 use borrow.Author.Tests.{not-false}
 use borrow.Author.Rules.{rules}
-use Rattle.logic.specs.Move.{fill-at}
-use Rattle.logic.specs.Limits.{most-words, most-type-words}
+use Rattle.logic.specs.Move.{fill_at}
+use Rattle.logic.specs.Limits.{most_words, most_type_words}
 use Rattle.logic.specs.Term.{Term, size}
 use Rattle.moves.specs.Fill.{Fillable, FilledTo}
-use Rattle.moves.proofs.Fills.{done-is}
-use Rattle.words.proofs.Places.{at-end, size_is}
-use Rattle.rules.specs.Form.{front-words}
+use Rattle.moves.proofs.Fills.{done_is}
+use Rattle.words.proofs.Places.{at_end, size_is}
+use Rattle.rules.specs.Form.{front_words}
 use Rattle.results.specs.Results.{Applies}
-use Rattle.results.proofs.Results.{function-size, apply-short, apply-differs, body_at, argument_is, apply-over, apply-done}
+use Rattle.results.proofs.Results.{function_size, apply_short, apply_differs, body_at, argument_is, apply_over, apply_done}
 use Rattle.results.proofs.apply.apply.Statement.{statement}
 use Rattle.results.proofs.apply.apply.Tie as tie
 
 -- the numbers of the types that `requires` brought
 record Sizes (len plen n m next end C e : ℕ) : Type 0 where
   body : C ≤ n
-  small : n ≤ most-type-words
-  room : n + front-words ≤ len
+  small : n ≤ most_type_words
+  room : n + front_words ≤ len
   argument : next + e ≤ plen
   end_is : end ≡ next + e
-  short : plen ≤ most-words
+  short : plen ≤ most_words
 
 sizes : (s : tie.Start) →
     Sizes (length s.args.ws.now) (length s.args.proof.now) s.args.n s.args.m s.args.next s.args.end (size s.requires.C)
@@ -33,8 +33,8 @@ sizes : (s : tie.Start) →
 sizes s =
     let a = s.args in
     let p = s.requires in
-    let k = function-size a.proof.now a.ws.now a.at a.next a.n a.m a.end p.d p.C p.e p.E p.applies in
-    record { body = omega arith; small = p.small; room = p.room; argument = at-end p.applies.here; end_is = p.applies.end_is; short = p.short }
+    let k = function_size a.proof.now a.ws.now a.at a.next a.n a.m a.end p.d p.C p.e p.E p.applies in
+    record { body = omega arith; small = p.small; room = p.room; argument = at_end p.applies.here; end_is = p.applies.end_is; short = p.short }
 
 -- ---- places, from a later one back to an earlier one
 
@@ -67,15 +67,15 @@ before-large3 c = c.before.before
 
 -- the words compared are the same
 agree : (c : tie.Else2) →
-    let at-start = before-held (before-else2 c) in
-    let a = at-start.args in
+    let at_start = before-held (before-else2 c) in
+    let a = at_start.args in
     take (1 + a.m - 1) (drop 1 a.ws.now) ≡ take (a.n + a.m - a.n) (drop a.n a.ws.now)
 agree c = c.before.same.ensures.0 (not-false c.before.same.result c.if2.false)
 
 -- the body and the argument stand where filling reads them
 fillable : (c : tie.Else2) →
-    let at-start = before-held (before-else2 c) in
-    let a = at-start.args in
+    let at_start = before-held (before-else2 c) in
+    let a = at_start.args in
     Fillable a.ws.now (1 + a.m) 0 (take (a.end - a.next) (drop a.next a.proof.now))
 fillable c =
     let s = before-held (before-else2 c) in
@@ -96,27 +96,27 @@ fillable c =
 
 -- what filling says, of any types that stand there
 filled : (c : tie.After-fill-into) (d C e E : Term) →
-    let at-start = before-held (before-else2 (before-fill-into c)) in
-    let a = at-start.args in
-    Applies a.proof.now a.ws.now a.next a.n a.m a.end d C e E → FilledTo C (fill-at 0 e C) (1 + a.m) (replicate 32 0) 0
-    c.fill-into.new.1.1.1.1.0 c.fill-into.result
+    let at_start = before-held (before-else2 (before-fill-into c)) in
+    let a = at_start.args in
+    Applies a.proof.now a.ws.now a.next a.n a.m a.end d C e E → FilledTo C (fill_at 0 e C) (1 + a.m) (replicate 32 0) 0
+    c.fill_into.new.1.1.1.1.0 c.fill_into.result
 filled c d C e E j =
     let at-else2 = before-fill-into c in
-    let at-start = before-held (before-else2 at-else2) in
-    let a = at-start.args in
+    let at_start = before-held (before-else2 at-else2) in
+    let a = at_start.args in
     let q = agree at-else2 in
-    c.fill-into.ensures C e (body_at a.proof.now a.ws.now a.at a.next a.n a.m a.end d C e E j q)
+    c.fill_into.ensures C e (body_at a.proof.now a.ws.now a.at a.next a.n a.m a.end d C e E j q)
     (argument_is a.proof.now a.ws.now a.at a.next a.n a.m a.end d C e E j q)
 
 filled-long : (c : tie.After-fill-into2) (d C e E : Term) →
-    let at-start = before-held (before-else2 (before-fill-into (before-small2 (before-fill-into2 c)))) in
-    let a = at-start.args in
-    Applies a.proof.now a.ws.now a.next a.n a.m a.end d C e E → FilledTo C (fill-at 0 e C) (1 + a.m) (replicate most-type-words 0)
+    let at_start = before-held (before-else2 (before-fill-into (before-small2 (before-fill-into2 c)))) in
+    let a = at_start.args in
+    Applies a.proof.now a.ws.now a.next a.n a.m a.end d C e E → FilledTo C (fill_at 0 e C) (1 + a.m) (replicate most_type_words 0)
     0 c.fill-into2.new.1.1.1.1.0 c.fill-into2.result
 filled-long c d C e E j =
     let at-else2 = before-fill-into (before-small2 (before-fill-into2 c)) in
-    let at-start = before-held (before-else2 at-else2) in
-    let a = at-start.args in
+    let at_start = before-held (before-else2 at-else2) in
+    let a = at_start.args in
     let q = agree at-else2 in
     c.fill-into2.ensures C e (body_at a.proof.now a.ws.now a.at a.next a.n a.m a.end d C e E j q)
     (argument_is a.proof.now a.ws.now a.at a.next a.n a.m a.end d C e E j q)
@@ -127,7 +127,7 @@ add_body c = search rules
 returns : tie.Need-returns
 returns c =
     let a = c.before.before.before.args in
-    λ d C e E j. apply-short a.proof.now a.ws.now a.at a.next a.n a.m a.end d C e E j c.if1.true
+    λ d C e E j. apply_short a.proof.now a.ws.now a.at a.next a.n a.m a.end d C e E j c.if1.true
 
 sub_same : tie.Need-overflow-sub-same
 sub_same c = search rules
@@ -161,15 +161,15 @@ same_length c = search rules
 
 returns-2 : tie.Need-returns-2
 returns-2 c =
-    let at-start = before-held c.before.before.before.before in
-    let a = at-start.args in
-    λ d C e E j. apply-differs a.proof.now a.ws.now a.at a.next a.n a.m a.end d C e E j c.before.same.result
+    let at_start = before-held c.before.before.before.before in
+    let a = at_start.args in
+    λ d C e E j. apply_differs a.proof.now a.ws.now a.at a.next a.n a.m a.end d C e E j c.before.same.result
     c.if2.true c.before.same.ensures.1
 
 mul-filler : tie.Need-overflow-mul-filler
 mul-filler c =
-    let at-start = before-held (before-else2 c) in
-    let z = sizes at-start in omega arith
+    let at_start = before-held (before-else2 c) in
+    let z = sizes at_start in omega arith
 
 sub-filler : tie.Need-overflow-sub-filler
 sub-filler c = search rules
@@ -179,8 +179,8 @@ part-filler-start c = search rules
 
 part-filler-end : tie.Need-slice-bounds-filler-end
 part-filler-end c =
-    let at-start = before-held (before-else2 c) in
-    let z = sizes at-start in omega (arith, z.argument)
+    let at_start = before-held (before-else2 c) in
+    let z = sizes at_start in omega (arith, z.argument)
 
 slice-aggregate-fill-into : tie.Need-slice-aggregate-fill-into
 slice-aggregate-fill-into c = search rules
@@ -201,9 +201,9 @@ copy-requires c κs =
     let s = before-held (before-else2 (before-fill-into at-fill-into)) in
     let p = s.pre in
     let f = filled at-fill-into p.d p.C p.e p.E p.applies in
-    let was = done-is p.C (fill-at 0 p.e p.C) (1 + s.args.m) 0 _ f.answer _ _ at-short.short.given.1 in
+    let was = done_is p.C (fill_at 0 p.e p.C) (1 + s.args.m) 0 _ f.answer _ _ at-short.short.given.1 in
     let w : at-short.short.given.0.1.0 ≤ 32 = was.fits in
-    let k = at-fill-into.fill-into.kept.1.1.1.1.0 in
+    let k = at-fill-into.fill_into.kept.1.1.1.1.0 in
     let z = sizes s in
     (omega (arith, w, k), omega (arith, w, z))
 
@@ -215,9 +215,9 @@ returns-3 c =
     let at-short = before-small3 c.before.before.before.before in
     let at-fill-into = before-short at-short in
     let at-else2 = before-fill-into at-fill-into in
-    let at-start = before-held (before-else2 at-else2) in
-    let a = at-start.args in
-    λ d C e E j. apply-done a.proof.now a.ws.now a.at a.next a.n a.m a.end d C e E j (agree at-else2) _ _ _
+    let at_start = before-held (before-else2 at-else2) in
+    let a = at_start.args in
+    λ d C e E j. apply_done a.proof.now a.ws.now a.at a.next a.n a.m a.end d C e E j (agree at-else2) _ _ _
     (filled at-fill-into d C e E j) (omega arith) _ _ at-short.short.given.0.1.0 at-short.short.given.1 c.before.before.copy.ensures
 
 enum_told : tie.Need-enum-told
@@ -244,9 +244,9 @@ returns-4 : tie.Need-returns-4
 returns-4 c =
     let at-fill-into2 = c.before.before.before in
     let at-else2 = before-fill-into (before-small2 (before-fill-into2 at-fill-into2)) in
-    let at-start = before-held (before-else2 at-else2) in
-    let a = at-start.args in
-    λ d C e E j. apply-over a.proof.now a.ws.now a.at a.next a.n a.m a.end d C e E j (agree at-else2) _ _ _
+    let at_start = before-held (before-else2 at-else2) in
+    let a = at_start.args in
+    λ d C e E j. apply_over a.proof.now a.ws.now a.at a.next a.n a.m a.end d C e E j (agree at-else2) _ _ _
     (filled-long at-fill-into2 d C e E j) refl c.enum-told2.given.1
 
 slice-aggregate-copy-2 : tie.Need-slice-aggregate-copy-2
@@ -259,8 +259,8 @@ copy-requires-2 c κs =
     let s = before-held (before-else2 (before-fill-into (before-small2 (before-fill-into2 at-fill-into2)))) in
     let p = s.pre in
     let f = filled-long at-fill-into2 p.d p.C p.e p.E p.applies in
-    let was = done-is p.C (fill-at 0 p.e p.C) (1 + s.args.m) 0 _ f.answer _ _ at_long.long.given.1 in
-    let w : at_long.long.given.0.1.0 ≤ most-type-words = was.fits in
+    let was = done_is p.C (fill_at 0 p.e p.C) (1 + s.args.m) 0 _ f.answer _ _ at_long.long.given.1 in
+    let w : at_long.long.given.0.1.0 ≤ most_type_words = was.fits in
     let k = at-fill-into2.fill-into2.kept.1.1.1.1.0 in
     let z = sizes s in
     (omega (arith, w, k), omega (arith, w, z))
@@ -273,9 +273,9 @@ returns-5 c =
     let at_long = before-large3 c.before.before.before.before in
     let at-fill-into2 = before-long at_long in
     let at-else2 = before-fill-into (before-small2 (before-fill-into2 at-fill-into2)) in
-    let at-start = before-held (before-else2 at-else2) in
-    let a = at-start.args in
-    λ d C e E j. apply-done a.proof.now a.ws.now a.at a.next a.n a.m a.end d C e E j (agree at-else2) _ _ _
+    let at_start = before-held (before-else2 at-else2) in
+    let a = at_start.args in
+    λ d C e E j. apply_done a.proof.now a.ws.now a.at a.next a.n a.m a.end d C e E j (agree at-else2) _ _ _
     (filled-long at-fill-into2 d C e E j) (omega arith) _ _ at_long.long.given.0.1.0 at_long.long.given.1
     c.before.before.copy2.ensures
 

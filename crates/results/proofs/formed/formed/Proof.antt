@@ -8,16 +8,16 @@ use lib.ListN.{length, get_or}
 use lib.Dec.{eqb}
 use borrow.Author.Rules.{rules}
 use Rattle.logic.specs.Infer.{same}
-use Rattle.logic.specs.Term.{propA, kindPA, lamO, appO, retO, bindO, Term, P, KindP, op-word}
+use Rattle.logic.specs.Term.{propA, kindPA, lamO, appO, retO, bindO, Term, P, KindP, op_word}
 use Rattle.words.specs.Typed.{TypeAt}
-use Rattle.words.proofs.Types.{at-type, type-within}
-use Rattle.results.proofs.Formings.{formed-app, formed-bind, formed-lam, formed-ret, appliable, bindable, pairable, formed-prop}
-use Rattle.results.proofs.Formings.{formed-no-says, formed-kind, formed-no-pi}
+use Rattle.words.proofs.Types.{at_type, type_within}
+use Rattle.results.proofs.Formings.{formed_app, formed_bind, formed_lam, formed_ret, appliable, bindable, pairable, formed_prop}
+use Rattle.results.proofs.Formings.{formed_no_says, formed_kind, formed_no_pi}
 use Rattle.results.proofs.formed.formed.Statement.{statement}
 use Rattle.results.proofs.formed.formed.Tie as tie
 
 within : (s : tie.Start) → s.args.at < length s.args.proof.now
-within s = type-within (at-type s.requires.forms.here)
+within s = type_within (at_type s.requires.forms.here)
 
 -- ---- places, from a later one back to an earlier one
 
@@ -50,21 +50,21 @@ before-pair2 c = c.before.before.before.before.before
 
 -- the word is that of a Says or a Pi
 others : (c : tie.Else4) →
-    let at-start = before-slice-known (before-else4 c) in
-    let a = at-start.args in
-    (eqb (get_or a.proof.now a.at 0) (op-word appO) ≡ false) × (eqb (get_or a.proof.now a.at 0) (op-word bindO) ≡ false) ×
-    (eqb (get_or a.proof.now a.at 0) (op-word lamO) ≡ false) × (eqb (get_or a.proof.now a.at 0) (op-word retO) ≡ false)
+    let at_start = before-slice-known (before-else4 c) in
+    let a = at_start.args in
+    (eqb (get_or a.proof.now a.at 0) (op_word appO) ≡ false) × (eqb (get_or a.proof.now a.at 0) (op_word bindO) ≡ false) ×
+    (eqb (get_or a.proof.now a.at 0) (op_word lamO) ≡ false) × (eqb (get_or a.proof.now a.at 0) (op_word retO) ≡ false)
 others c = (c.before.before.before.if1.false, c.before.before.if2.false, c.before.if3.false, c.if4.false)
 
 -- what the tests say, of any type that stands there
 is-prop : (c : tie.After-front-is) (B : Term) →
-    let at-start = before-slice-known (before-else4 (before-front-is c)) in
-    TypeAt at-start.args.ws.now 0 B → c.front-is.result ≡ same B P
+    let at_start = before-slice-known (before-else4 (before-front-is c)) in
+    TypeAt at_start.args.ws.now 0 B → c.front-is.result ≡ same B P
 is-prop c B h = c.front-is.ensures B propA h refl tt
 
 is-kind : (c : tie.After-front-is2) (B : Term) →
-    let at-start = before-slice-known (before-else4 (before-front-is c.before.before.before.before)) in
-    TypeAt at-start.args.ws.now 0 B → c.front-is2.result ≡ same B KindP
+    let at_start = before-slice-known (before-else4 (before-front-is c.before.before.before.before)) in
+    TypeAt at_start.args.ws.now 0 B → c.front-is2.result ≡ same B KindP
 is-kind c B h = c.front-is2.ensures B kindPA h refl tt
 
 mul-word : tie.Need-overflow-mul-word
@@ -85,9 +85,9 @@ same_length c = search rules
 returns : tie.Need-returns
 returns c =
     let at-apply = c.before.before in
-    let at-start = before-slice-known (before-apply at-apply) in
-    let a = at-start.args in
-    formed-app a.proof.now a.ws.now a.used a.at a.next a.n a.m a.end _ _ c.before.before.before.before.if1.true
+    let at_start = before-slice-known (before-apply at-apply) in
+    let a = at_start.args in
+    formed_app a.proof.now a.ws.now a.used a.at a.next a.n a.m a.end _ _ c.before.before.before.before.if1.true
     at-apply.apply.ensures
 
 bind-requires : tie.Need-bind-requires
@@ -101,9 +101,9 @@ same-length-2 c = search rules
 returns-2 : tie.Need-returns-2
 returns-2 c =
     let at-bind = c.before.before in
-    let at-start = before-slice-known (before-bind at-bind) in
-    let a = at-start.args in
-    formed-bind a.proof.now a.ws.now a.used a.at a.next a.n a.m a.end _ _ c.before.before.before.before.if2.true
+    let at_start = before-slice-known (before-bind at-bind) in
+    let a = at_start.args in
+    formed_bind a.proof.now a.ws.now a.used a.at a.next a.n a.m a.end _ _ c.before.before.before.before.if2.true
     at-bind.bind.ensures
 
 pair-requires : tie.Need-pair-requires
@@ -117,9 +117,9 @@ same-length-3 c = search rules
 returns-3 : tie.Need-returns-3
 returns-3 c =
     let at_pair = c.before.before in
-    let at-start = before-shared-slice-known2 (before-pair at_pair) in
-    let a = at-start.args in
-    formed-lam a.proof.now a.ws.now a.used a.at a.next a.n a.m a.end _ _ c.before.before.before.before.if3.true
+    let at_start = before-shared-slice-known2 (before-pair at_pair) in
+    let a = at_start.args in
+    formed_lam a.proof.now a.ws.now a.used a.at a.next a.n a.m a.end _ _ c.before.before.before.before.if3.true
     at_pair.pair.ensures
 
 pair-requires-2 : tie.Need-pair-requires-2
@@ -133,9 +133,9 @@ same-length-4 c = search rules
 returns-4 : tie.Need-returns-4
 returns-4 c =
     let at-pair2 = c.before.before in
-    let at-start = before-else1 (before-pair2 at-pair2) in
-    let a = at-start.args in
-    formed-ret a.proof.now a.ws.now a.used a.at a.next a.n a.m a.end _ _ c.before.before.before.before.if4.true
+    let at_start = before-else1 (before-pair2 at-pair2) in
+    let a = at_start.args in
+    formed_ret a.proof.now a.ws.now a.used a.at a.next a.n a.m a.end _ _ c.before.before.before.before.if4.true
     at-pair2.pair2.ensures
 
 front-is-requires : tie.Need-front-is-requires
@@ -148,9 +148,9 @@ returns-5 : tie.Need-returns-5
 returns-5 c =
     let at-front-is = c.before in
     let at-else4 = before-front-is at-front-is in
-    let at-start = before-slice-known (before-else4 at-else4) in
-    let a = at-start.args in
-    formed-prop a.proof.now a.ws.now a.used a.at a.next a.n a.m a.end (others at-else4) at-front-is.front-is.result
+    let at_start = before-slice-known (before-else4 at-else4) in
+    let a = at_start.args in
+    formed_prop a.proof.now a.ws.now a.used a.at a.next a.n a.m a.end (others at-else4) at-front-is.front-is.result
     (is-prop at-front-is) c.if5.true
 
 same-length-6 : tie.Need-same-length-6
@@ -160,9 +160,9 @@ returns-6 : tie.Need-returns-6
 returns-6 c =
     let at-front-is = c.before.before in
     let at-else4 = before-front-is at-front-is in
-    let at-start = before-slice-known (before-else4 at-else4) in
-    let a = at-start.args in
-    formed-no-says a.proof.now a.ws.now a.used a.at a.next a.n a.m a.end (others at-else4) at-front-is.front-is.result
+    let at_start = before-slice-known (before-else4 at-else4) in
+    let a = at_start.args in
+    formed_no_says a.proof.now a.ws.now a.used a.at a.next a.n a.m a.end (others at-else4) at-front-is.front-is.result
     (is-prop at-front-is) c.before.if5.false c.if6.true
 
 front-is-requires-2 : tie.Need-front-is-requires-2
@@ -175,9 +175,9 @@ returns-7 : tie.Need-returns-7
 returns-7 c =
     let at-front-is = c.before.before.before.before.before in
     let at-else4 = before-front-is at-front-is in
-    let at-start = before-slice-known (before-else4 at-else4) in
-    let a = at-start.args in
-    formed-kind a.proof.now a.ws.now a.used a.at a.next a.n a.m a.end (others at-else4) at-front-is.front-is.result
+    let at_start = before-slice-known (before-else4 at-else4) in
+    let a = at_start.args in
+    formed_kind a.proof.now a.ws.now a.used a.at a.next a.n a.m a.end (others at-else4) at-front-is.front-is.result
     (is-prop at-front-is) c.before.before.before.before.if5.false c.before.before.before.if6.false c.before.front-is2.result
     (is-kind c.before) c.if7.true
 
@@ -188,9 +188,9 @@ returns-8 : tie.Need-returns-8
 returns-8 c =
     let at-front-is = c.before.before.before.before.before in
     let at-else4 = before-front-is at-front-is in
-    let at-start = before-slice-known (before-else4 at-else4) in
-    let a = at-start.args in
-    formed-no-pi a.proof.now a.ws.now a.used a.at a.next a.n a.m a.end (others at-else4) at-front-is.front-is.result
+    let at_start = before-slice-known (before-else4 at-else4) in
+    let a = at_start.args in
+    formed_no_pi a.proof.now a.ws.now a.used a.at a.next a.n a.m a.end (others at-else4) at-front-is.front-is.result
     (is-prop at-front-is) c.before.before.before.before.if5.false c.before.before.before.if6.false c.before.front-is2.result
     (is-kind c.before) c.if7.false
 

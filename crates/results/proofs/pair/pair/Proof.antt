@@ -7,13 +7,13 @@ use mathlib.Core.Logic.{inl, inr}
 use lib.ListN.{length, length-set}
 use borrow.Author.Rules.{rules}
 use Rattle.logic.specs.Infer.{proposition}
-use Rattle.logic.specs.Limits.{most-words, most-type-words}
+use Rattle.logic.specs.Limits.{most_words, most_type_words}
 use Rattle.logic.specs.Term.{Term}
-use Rattle.logic.proofs.Words.{size-pos}
-use Rattle.words.proofs.Places.{at-end}
-use Rattle.rules.specs.Form.{front-words}
+use Rattle.logic.proofs.Words.{size_pos}
+use Rattle.words.proofs.Places.{at_end}
+use Rattle.rules.specs.Form.{front_words}
 use Rattle.results.specs.Results.{Pairs}
-use Rattle.results.proofs.Results.{pair-unlike, pair-long, pair-done}
+use Rattle.results.proofs.Results.{pair_unlike, pair_long, pair_done}
 use Rattle.results.proofs.pair.pair.Statement.{statement}
 use Rattle.results.proofs.pair.pair.Tie as tie
 
@@ -21,19 +21,19 @@ use Rattle.results.proofs.pair.pair.Tie as tie
 record Sizes (len plen at next m : ℕ) : Type 0 where
   some : at + 2 ≤ next
   inside : next ≤ plen
-  short : plen ≤ most-words
+  short : plen ≤ most_words
   type : 1 ≤ m
-  small : m ≤ most-type-words
-  room : front-words ≤ len
+  small : m ≤ most_type_words
+  room : front_words ≤ len
 
 sizes : (s : tie.Start) → Sizes (length s.args.ws.now) (length s.args.proof.now) s.args.at s.args.next s.args.m
 sizes s =
     let p = s.requires in
-    let e = p.pairs.next-is in
-    let h = at-end p.pairs.here in
-    let k = size-pos p.a in
-    let b = size-pos p.B in
-    let w = p.pairs.type-words in
+    let e = p.pairs.next_is in
+    let h = at_end p.pairs.here in
+    let k = size_pos p.a in
+    let b = size_pos p.B in
+    let w = p.pairs.type_words in
     record { some = omega arith; inside = omega arith; type = omega arith; short = p.short; small = p.small; room = p.room }
 
 -- what the test says, of any type that stands there
@@ -64,12 +64,12 @@ abbrev before-ws2 : tie.After-ws2 → tie.After-copy
 before-ws2 c = c.before
 
 length-mid : (c : tie.After-copy) →
-    let at-start = before-proposition (before-else1 (before-else2 (before-copy-within (before-copy c)))) in
-    length c.copy.new.1.1.1.0 ≡ length at-start.args.ws.now
+    let at_start = before-proposition (before-else1 (before-else2 (before-copy-within (before-copy c)))) in
+    length c.copy.new.1.1.1.0 ≡ length at_start.args.ws.now
 length-mid c =
     let at-copy-within = before-copy c in
-    let at-start = before-proposition (before-else1 (before-else2 (before-copy-within at-copy-within))) in
-    c.copy.auto.1.1.1.0 ∙ length-set at-copy-within.copy_within.last.0 0 at-start.args.head ∙ at-copy-within.copy_within.kept.0
+    let at_start = before-proposition (before-else1 (before-else2 (before-copy-within at-copy-within))) in
+    c.copy.auto.1.1.1.0 ∙ length-set at-copy-within.copy_within.last.0 0 at_start.args.head ∙ at-copy-within.copy_within.kept.0
 
 proposition-requires : tie.Need-proposition-requires
 proposition-requires c κs = search rules
@@ -80,7 +80,7 @@ same_length c = search rules
 returns : tie.Need-returns
 returns c =
     let a = c.before.before.before.before.before.args in
-    λ o x B h j. pair-unlike a.proof.now a.ws.now a.at a.next a.m a.end o x B j c.before.proposition.result
+    λ o x B h j. pair_unlike a.proof.now a.ws.now a.at a.next a.m a.end o x B j c.before.proposition.result
     (fine c.before x B j) c.if1.true
 
 sub-before : tie.Need-overflow-sub-before
@@ -96,15 +96,15 @@ returns-2 : tie.Need-returns-2
 returns-2 c =
     let at-else1 = c.before in
     let at-proposition = before-else1 at-else1 in
-    let at-start = before-proposition at-proposition in
-    let a = at-start.args in
-    λ o x B h j. pair-long a.proof.now a.ws.now a.at a.next a.m a.end o x B j at-proposition.proposition.result
+    let at_start = before-proposition at-proposition in
+    let a = at_start.args in
+    λ o x B h j. pair_long a.proof.now a.ws.now a.at a.next a.m a.end o x B j at-proposition.proposition.result
     (fine at-proposition x B j) at-else1.if1.false (omega (arith, c.if2.true))
 
 copy-within-requires : tie.Need-copy-within-requires
 copy-within-requires c κs =
-    let at-start = before-proposition (before-else1 (before-else2 c.before)) in
-    let z = sizes at-start in record { source = omega (arith, z); target = omega (arith, z); ahead = inr (omega (arith, z)) }
+    let at_start = before-proposition (before-else1 (before-else2 c.before)) in
+    let z = sizes at_start in record { source = omega (arith, z); target = omega (arith, z); ahead = inr (omega (arith, z)) }
 
 slice-write-ws : tie.Need-slice-write-ws
 slice-write-ws c = search rules
@@ -119,8 +119,8 @@ copy-requires : tie.Need-copy-requires
 copy-requires c κs =
     let at-copy-within = c.before.before.before in
     let at-else2 = before-copy-within at-copy-within in
-    let at-start = before-proposition (before-else1 (before-else2 at-else2)) in
-    let z = sizes at-start in
+    let at_start = before-proposition (before-else1 (before-else2 at-else2)) in
+    let z = sizes at_start in
     let l = at-else2.if2.left in
     let k = at-copy-within.copy_within.auto.0 in
     (omega (arith, z), simp length-set (omega (arith, z, l, k)))
@@ -129,8 +129,8 @@ copy-within-requires-2 : tie.Need-copy-within-requires-2
 copy-within-requires-2 c κs =
     let at_copy = c.before.before.before in
     let at-else2 = before-copy-within (before-copy at_copy) in
-    let at-start = before-proposition (before-else1 (before-else2 at-else2)) in
-    let z = sizes at-start in
+    let at_start = before-proposition (before-else1 (before-else2 at-else2)) in
+    let z = sizes at_start in
     let l = at-else2.if2.left in
     let k = length-mid at_copy in
     record { source = omega (arith, z, k); target = omega (arith, z, l, k); ahead = inl (omega (arith, z, l)) }
@@ -152,7 +152,7 @@ returns-3 c =
     let at-proposition = before-else1 at-else1 in
     let s = before-proposition at-proposition in
     let a = s.args in
-    λ o x B h j. pair-done a.proof.now a.ws.now a.at a.next a.m a.end o x B j at-proposition.proposition.result
+    λ o x B h j. pair_done a.proof.now a.ws.now a.at a.next a.m a.end o x B j at-proposition.proposition.result
     (fine at-proposition x B j) at-else1.if1.left a.head _ _ _ h at-else2.if2.left s.pre.room at-copy-within.copy_within.kept.0
     at-copy-within.copy_within.ensures at_copy.copy.ensures c.before.before.copy-within2.ensures
 

@@ -6,10 +6,10 @@ use mathlib.Core.List.{[]}
 use native.Mathlib.Omega.{arith}
 use lib.ListN.{length}
 use borrow.Author.Tests.{not-true, not-false}
-use Rattle.register.specs.Records.{rule-length-word, statements, states}
-use Rattle.register.specs.History.{each-once}
-use Rattle.search.proofs.Search.{reads-rules}
-use Rattle.rule_list.proofs.RuleList.{Turn, turn, rule-at, Counting, counting-start, counting-repeated, counting-added, counting-end}
+use Rattle.register.specs.Records.{rule_length_word, statements, states}
+use Rattle.register.specs.History.{each_once}
+use Rattle.search.proofs.Search.{reads_rules}
+use Rattle.rule_list.proofs.RuleList.{Turn, turn, rule_at, Counting, counting_start, counting_repeated, counting_added, counting_end}
 use borrow.Author.Rules.{rules}
 use Rattle.rule_list.proofs.opening.opening_words.Statement.{statement}
 use Rattle.rule_list.proofs.opening.opening_words.Tie as tie
@@ -41,16 +41,16 @@ here c = let l = c.before.loop in turn (start c.before).args.rules.now l.at l.in
 -- what the search tells
 told : (c : tie.After-stands invariant-loop decreases-loop) →
     let l = (turning c).before.loop in
-    c.stands.result ≡ states (statements (each-once [] l.inv.1.place.before)) (rule-at (start (turning c).before).args.rules.now l.at)
+    c.stands.result ≡ states (statements (each_once [] l.inv.1.place.before)) (rule_at (start (turning c).before).args.rules.now l.at)
 told c =
     let l = (turning c).before.loop in
     let p = l.inv.1.place in
     let source = c.before.before.before.before.before in
-    c.stands.ensures (each-once [] p.before)
-    (reads-rules (start (turning c).before).args.rules.now l.at p.before source.rules-before.ensures p.front)
+    c.stands.ensures (each_once [] p.before)
+    (reads_rules (start (turning c).before).args.rules.now l.at p.before source.rules-before.ensures p.front)
 
 loop-holds : tie.Need-loop-init invariant-loop decreases-loop
-loop-holds c = (omega arith, counting-start c.before.args.rules.now c.before.requires)
+loop-holds c = (omega arith, counting_start c.before.args.rules.now c.before.requires)
 
 add-n : tie.Need-overflow-add-n invariant-loop decreases-loop
 add-n c = let t = here c in omega (arith, t.fits)
@@ -62,7 +62,7 @@ shared-slice-read-n : tie.Need-shared-slice-read-n invariant-loop decreases-loop
 shared-slice-read-n c = let t = here c.before in omega (arith, t.fits, t.low)
 
 cast-n : tie.Need-overflow-cast-n invariant-loop decreases-loop
-cast-n c = omega (arith, c.shared-slice-known2.given (c.before.before.loop.at + rule-length-word))
+cast-n c = omega (arith, c.shared-slice-known2.given (c.before.before.loop.at + rule_length_word))
 
 add_start : tie.Need-overflow-add-start invariant-loop decreases-loop
 add_start c = let t = here c.before in omega (arith, t.fits)
@@ -118,8 +118,8 @@ stands-requires c κs =
     let l = s.before.before.before.loop in
     let p = l.invariant.1.place in
     record {
-      found = each-once [] p.before;
-      reads = reads-rules (start s.before.before.before).args.rules.now l.at p.before s.rules-before.ensures p.front;
+      found = each_once [] p.before;
+      reads = reads_rules (start s.before.before.before).args.rules.now l.at p.before s.rules-before.ensures p.front;
     }
 
 add_total : tie.Need-overflow-add-total invariant-loop decreases-loop
@@ -144,7 +144,7 @@ loop-again c =
     let w = turning c.before in
     let l = w.before.loop in (
       (here w).fits,
-      counting-added (start w.before).args.rules.now l.at l.total l.inv.1 w.loop-test.taken
+      counting_added (start w.before).args.rules.now l.at l.total l.inv.1 w.loop-test.taken
           (sym (told c.before) ∙ not-true _ c.if1.true),
     )
 
@@ -156,14 +156,14 @@ loop-again-2 c =
     let w = turning c.before in
     let l = w.before.loop in (
       (here w).fits,
-      counting-repeated (start w.before).args.rules.now l.at l.total l.inv.1 w.loop-test.taken
+      counting_repeated (start w.before).args.rules.now l.at l.total l.inv.1 w.loop-test.taken
           (sym (told c.before) ∙ not-false _ c.if1.false),
     )
 
 returns : tie.Need-returns invariant-loop decreases-loop
 returns c =
     let l = c.before.loop in
-    counting-end (start c.before).args.rules.now l.at l.total l.invariant.1 (omega arith)
+    counting_end (start c.before).args.rules.now l.at l.total l.invariant.1 (omega arith)
 
 pub opening-words-spec : {M : Type 1} → statement M
 opening-words-spec =

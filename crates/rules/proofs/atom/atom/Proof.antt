@@ -1,5 +1,5 @@
 -- `atom` gives an atom's type: a constant's by `constant`, any other's is an atom, which is written at the front.
-use Rattle.rules.proofs.Atoms.{constant-typed, sort-known, sorted}
+use Rattle.rules.proofs.Atoms.{constant_typed, sort_known, sorted}
 use Rattle.logic.specs.Term.{tag_of}
 use Prim.Native.Nat.{ℕ}
 use mathlib.Core.Path.{sym, ap, ◌∙◌}
@@ -38,8 +38,8 @@ returns c =
     let at-payload-of = c.before.before.before in
     let at-tag-of = before-payload-of at-payload-of in
     let s = before-tag-of at-tag-of in
-    λ Σ a d e p. constant-typed Σ s.args.at s.args.word a p e
-    (sym at-tag-of.tag_of.ensures ∙ c.before.before.before.before.before.if1.true) at-payload-of.payload-of.ensures
+    λ Σ a d e p. constant_typed Σ s.args.at s.args.word a p e
+    (sym at-tag-of.tag_of.ensures ∙ c.before.before.before.before.before.if1.true) at-payload-of.payload_of.ensures
     (c.before.before.constant.ensures Σ d)
 
 sort-requires : tie.Need-sort-requires
@@ -58,7 +58,7 @@ returns-2 : tie.Need-returns-2
 returns-2 c =
     let at-tag-of = c.before.before in
     let s = before-tag-of at-tag-of in
-    λ Σ a d e p. let b = sort-known s.args.word a p e (λ q. c.before.if1.false (at-tag-of.tag_of.ensures ∙ q)) in sorted Σ s.args.at
+    λ Σ a d e p. let b = sort_known s.args.word a p e (λ q. c.before.if1.false (at-tag-of.tag_of.ensures ∙ q)) in sorted Σ s.args.at
     c.sort.result s.args.ws.now a b.0 (omega (arith, s.pre.room)) b.1
     (c.sort.ensures a b.0 p (at-tag-of.tag_of.ensures ∙ ap (λ (w : ℕ). tag_of w) e) b.1)
 

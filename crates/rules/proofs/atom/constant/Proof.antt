@@ -1,7 +1,7 @@
 -- `constant` gives a constant's type: there is none, or it is too long, or its words are copied from the signature.
-use Rattle.rules.proofs.Atoms.{ConstantAt, constant-placed, constant-unknown, constant-long, constant-copied}
+use Rattle.rules.proofs.Atoms.{ConstantAt, constant_placed, constant_unknown, constant_long, constant_copied}
 use Rattle.rules.specs.Scope.{Declared}
-use Rattle.words.proofs.Places.{at-end}
+use Rattle.words.proofs.Places.{at_end}
 use Rattle.logic.specs.Term.{Term}
 use Prim.Native.Nat.{◌-◌}
 use lib.ListN.{get_or}
@@ -16,7 +16,7 @@ here-for : (c : tie.Else1) (Σ : List Term) →
     Declared c.before.before.before.before.args.sig.now c.before.before.before.before.args.table.now Σ →
     ConstantAt c.before.before.before.before.args.sig.now c.before.before.before.before.args.table.now
     c.before.before.before.before.args.n Σ
-here-for c Σ d = let s = c.before.before.before.before in constant-placed s.args.n c.if1.false d
+here-for c Σ d = let s = c.before.before.before.before in constant_placed s.args.n c.if1.false d
 
 abbrev here : (c : tie.Else1) →
     ConstantAt c.before.before.before.before.args.sig.now c.before.before.before.before.args.table.now
@@ -26,7 +26,7 @@ here c = here-for c c.before.before.before.before.requires.Σ c.before.before.be
 returns : tie.Need-returns
 returns c =
     let s = c.before.before.before.before in
-    λ Σ d. constant-unknown s.args.ws.now s.args.n s.args.at c.if1.true d
+    λ Σ d. constant_unknown s.args.ws.now s.args.n s.args.at c.if1.true d
 
 mul-start : tie.Need-overflow-mul-start
 mul-start c = search rules
@@ -41,10 +41,10 @@ sub_words : tie.Need-overflow-sub-words
 sub_words c = let h = here c.before in omega (arith, h.behind)
 
 mul_words : tie.Need-overflow-mul-words
-mul_words c = let h = here c.before in omega (arith, c.before.before.before.before.before.well-formed, at-end h.here)
+mul_words c = let h = here c.before in omega (arith, c.before.before.before.before.before.well_formed, at_end h.here)
 
 shared-slice-read-words : tie.Need-shared-slice-read-words
-shared-slice-read-words c = let h = here c.before.before in omega (arith, h.behind, at-end h.here)
+shared-slice-read-words c = let h = here c.before.before in omega (arith, h.behind, at_end h.here)
 
 -- ---- places, from a later one back to an earlier one
 
@@ -63,7 +63,7 @@ returns-2 : tie.Need-returns-2
 returns-2 c =
     let at-else1 = c.before.before.before in
     let s = before-else1 at-else1 in
-    λ Σ d. constant-long s.args.ws.now s.args.at (here-for at-else1 Σ d) c.if2.true
+    λ Σ d. constant_long s.args.ws.now s.args.at (here-for at-else1 Σ d) c.if2.true
 
 copy-requires : tie.Need-copy-requires
 copy-requires c κs =
@@ -71,7 +71,7 @@ copy-requires c κs =
     let s = before-else1 at-else1 in
     let h = here at-else1 in
     let w = h.words in
-    omega (arith, at-end h.here, s.pre.room, c.before.if2.false)
+    omega (arith, at_end h.here, s.pre.room, c.before.if2.false)
 
 add-t8 : tie.Need-overflow-add-t8
 add-t8 c = search rules
@@ -84,7 +84,7 @@ returns-3 c =
     let at_copy = c.before.before in
     let at-else1 = before-copy at_copy in
     let s = before-else1 at-else1 in
-    λ Σ d. constant-copied s.args.ws.now s.args.at (here-for at-else1 Σ d) c.before.before.before.before.if2.false at_copy.copy.ensures
+    λ Σ d. constant_copied s.args.ws.now s.args.at (here-for at-else1 Σ d) c.before.before.before.before.if2.false at_copy.copy.ensures
 
 pub constant-spec : {M : Type 1} → statement M
 constant-spec =

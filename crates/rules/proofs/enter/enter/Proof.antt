@@ -1,10 +1,10 @@
 -- `enter` tests the type of a node's first child and keeps what is needed: by the node's word, a return for each
 -- outcome of the test.
 use mathlib.Core.List.{List}
-use Rattle.rules.proofs.Enters.{app-passes, app-fails, bind-passes, bind-fails, bind-keeps, binder-passes, binder-fails, plain_passes, plain-fails}
-use Rattle.words.proofs.Places.{at-end}
+use Rattle.rules.proofs.Enters.{app_passes, app_fails, bind_passes, bind_fails, bind_keeps, binder_passes, binder_fails, plain_passes, plain_fails}
+use Rattle.words.proofs.Places.{at_end}
 use Rattle.logic.specs.Term.{prinA}
-use Rattle.logic.proofs.Words.{size-pos}
+use Rattle.logic.proofs.Words.{size_pos}
 use lib.ListN.{length}
 use mathlib.Core.Path.{refl, sym, ◌∙◌}
 use Prim.Native.Nat.{ℕ, ◌+◌, ◌≤◌, ◌<◌}
@@ -21,13 +21,13 @@ record Within (proof : List ℕ) (at next : ℕ) : Type 0 where
 within : (s : tie.Start) → Within s.args.proof.now s.args.at s.args.next
 within s =
     let j = s.requires.enters in
-    let e = at-end j.here in
-    let p = size-pos s.requires.a in
-    let n = j.next-is in
+    let e = at_end j.here in
+    let p = size_pos s.requires.a in
+    let n = j.next_is in
     record { some = omega arith; end = omega arith }
 
 mul-word : tie.Need-overflow-mul-word
-mul-word c = let w = within c.before.before in omega (arith, c.before.before.well-formed)
+mul-word c = let w = within c.before.before in omega (arith, c.before.before.well_formed)
 
 shared-slice-read-word : tie.Need-shared-slice-read-word
 shared-slice-read-word c = let w = within c.before.before.before in omega arith
@@ -68,13 +68,13 @@ returns : tie.Need-returns
 returns c =
     let at-tag-of = c.before.before.before in
     let s = before-tag-of at-tag-of in
-    λ o a A j. app-passes s.args.used s.pre.room s.pre.small j (sym at-tag-of.tag_of.ensures ∙ c.before.before.if1.true) c.if2.true
+    λ o a A j. app_passes s.args.used s.pre.room s.pre.small j (sym at-tag-of.tag_of.ensures ∙ c.before.before.if1.true) c.if2.true
 
 returns-2 : tie.Need-returns-2
 returns-2 c =
     let at-tag-of = c.before.before.before in
     let s = before-tag-of at-tag-of in
-    λ o a A j. app-fails s.args.used s.pre.room s.pre.small j (sym at-tag-of.tag_of.ensures ∙ c.before.before.if1.true) c.if2.false
+    λ o a A j. app_fails s.args.used s.pre.room s.pre.small j (sym at-tag-of.tag_of.ensures ∙ c.before.before.if1.true) c.if2.false
 
 slice-read-if4 : tie.Need-slice-read-if4
 slice-read-if4 c = search rules
@@ -82,7 +82,7 @@ slice-read-if4 c = search rules
 keep-says-requires : tie.Need-keep-says-requires
 keep-says-requires c κs =
     let s = (before-then3 c.before.before.before).before.before.before.before.before in
-    bind-keeps s.args.used s.pre.room s.pre.small s.pre.enters c.before.if4.true
+    bind_keeps s.args.used s.pre.room s.pre.small s.pre.enters c.before.if4.true
 
 same_length : tie.Need-same-length
 same_length c = search rules
@@ -93,7 +93,7 @@ returns-3 c =
     let at-then3 = before-keep-says at-keep-says in
     let at-tag-of = at-then3.before.before in
     let s = before-tag-of at-tag-of in
-    λ o a A j. bind-passes s.args.used s.pre.room s.pre.small j (sym at-tag-of.tag_of.ensures ∙ at-then3.if3.taken)
+    λ o a A j. bind_passes s.args.used s.pre.room s.pre.small j (sym at-tag-of.tag_of.ensures ∙ at-then3.if3.taken)
     c.before.before.before.before.if4.true at-keep-says.keep-says.ensures
 
 returns-4 : tie.Need-returns-4
@@ -101,7 +101,7 @@ returns-4 c =
     let at-then3 = c.before.before in
     let at-tag-of = at-then3.before.before in
     let s = before-tag-of at-tag-of in
-    λ o a A j. bind-fails s.args.used s.pre.room s.pre.small j (sym at-tag-of.tag_of.ensures ∙ at-then3.if3.true) c.if4.false
+    λ o a A j. bind_fails s.args.used s.pre.room s.pre.small j (sym at-tag-of.tag_of.ensures ∙ at-then3.if3.true) c.if4.false
 
 kind-requires : tie.Need-kind-requires
 kind-requires c κs = search rules
@@ -127,24 +127,24 @@ returns-5 : tie.Need-returns-5
 returns-5 c =
     let at-domain = c.before.before.before.before.before in
     let at-then5 = before-domain at-domain in
-    let at-kind = before-then5 at-then5 in
-    let at-else3 = before-kind at-kind in
+    let at_kind = before-then5 at-then5 in
+    let at-else3 = before-kind at_kind in
     let at-tag-of = at-else3.before.before in
     let s = before-tag-of at-tag-of in
-    λ o a A j. binder-passes s.args.used s.pre.room s.pre.small j (λ e. at-else3.if3.left (at-tag-of.tag_of.ensures ∙ e))
-    at-kind.kind.ensures at-then5.if5.taken c.before.before.before.before.if6.true at-domain.domain.ensures
+    λ o a A j. binder_passes s.args.used s.pre.room s.pre.small j (λ e. at-else3.if3.left (at-tag-of.tag_of.ensures ∙ e))
+    at_kind.kind.ensures at-then5.if5.taken c.before.before.before.before.if6.true at-domain.domain.ensures
     c.before.before.keep-domain.ensures
 
 returns-6 : tie.Need-returns-6
 returns-6 c =
     let at-domain = c.before in
     let at-then5 = before-domain at-domain in
-    let at-kind = before-then5 at-then5 in
-    let at-else3 = before-kind at-kind in
+    let at_kind = before-then5 at-then5 in
+    let at-else3 = before-kind at_kind in
     let at-tag-of = at-else3.before.before in
     let s = before-tag-of at-tag-of in
-    λ o a A j. binder-fails s.args.used s.pre.room s.pre.small j (λ e. at-else3.if3.left (at-tag-of.tag_of.ensures ∙ e))
-    at-kind.kind.ensures at-then5.if5.taken c.if6.false at-domain.domain.ensures
+    λ o a A j. binder_fails s.args.used s.pre.room s.pre.small j (λ e. at-else3.if3.left (at-tag-of.tag_of.ensures ∙ e))
+    at_kind.kind.ensures at-then5.if5.taken c.if6.false at-domain.domain.ensures
 
 front-is-requires : tie.Need-front-is-requires
 front-is-requires c κs = search rules
@@ -154,24 +154,24 @@ same-length-3 c = search rules
 
 returns-7 : tie.Need-returns-7
 returns-7 c =
-    let at-kind = c.before.before.before.before in
-    let at-else1 = at-kind.before.before in
+    let at_kind = c.before.before.before.before in
+    let at-else1 = at_kind.before.before in
     let at-tag-of = before-else1 at-else1 in
     let s = before-tag-of at-tag-of in
     λ o a A j. plain_passes s.args.used s.pre.room s.pre.small j (λ e. at-else1.if1.false (at-tag-of.tag_of.ensures ∙ e))
-    at-kind.kind.ensures c.before.before.before.if5.false c.if7.true (c.before.front-is.ensures A prinA j.type refl tt)
+    at_kind.kind.ensures c.before.before.before.if5.false c.if7.true (c.before.front-is.ensures A prinA j.type refl tt)
 
 same-length-4 : tie.Need-same-length-4
 same-length-4 c = search rules
 
 returns-8 : tie.Need-returns-8
 returns-8 c =
-    let at-kind = c.before.before.before.before in
-    let at-else1 = at-kind.before.before in
+    let at_kind = c.before.before.before.before in
+    let at-else1 = at_kind.before.before in
     let at-tag-of = before-else1 at-else1 in
     let s = before-tag-of at-tag-of in
-    λ o a A j. plain-fails s.args.used s.pre.room s.pre.small j (λ e. at-else1.if1.false (at-tag-of.tag_of.ensures ∙ e))
-    at-kind.kind.ensures c.before.before.before.if5.false c.if7.false (c.before.front-is.ensures A prinA j.type refl tt)
+    λ o a A j. plain_fails s.args.used s.pre.room s.pre.small j (λ e. at-else1.if1.false (at-tag-of.tag_of.ensures ∙ e))
+    at_kind.kind.ensures c.before.before.before.if5.false c.if7.false (c.before.front-is.ensures A prinA j.type refl tt)
 
 pub enter_spec : {M : Type 1} → statement M
 enter_spec =

@@ -5,7 +5,7 @@ use native.Mathlib.Omega.{arith}
 use borrow.Author.Rules.{rules}
 use Rattle.rules.proofs.enter.put_head.Statement.{statement}
 use Rattle.rules.proofs.enter.put_head.Tie as tie
-use Rattle.words.proofs.Lists.{written-three}
+use Rattle.words.proofs.Lists.{written_three}
 
 cast-ws : tie.Need-overflow-cast-ws
 cast-ws c = search rules
@@ -46,7 +46,7 @@ same_length : tie.Need-same-length
 same_length c = search rules
 
 returns : tie.Need-returns
-returns c = written-three c.args.ws.now c.args.head c.args.total c.args.start c.args.size c.requires.0
+returns c = written_three c.args.ws.now c.args.head c.args.total c.args.start c.args.size c.requires.0
 
 pub put-head-spec : {M : Type 1} → statement M
 put-head-spec =

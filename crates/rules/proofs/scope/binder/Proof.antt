@@ -1,10 +1,10 @@
 -- `binder` searches the entry of variable n, by a loop over entries. The invariant (`BinderFound`): from `kept` on,
 -- the words kept are the entries of the binders behind the first n - left. The measure is `kept`.
-use Rattle.rules.proofs.Scopes.{EntryStep, entry-step, passed_none, passed-n, passed-one, passed-all}
+use Rattle.rules.proofs.Scopes.{EntryStep, entry_step, passed_none, passed_n, passed_one, passed_all}
 use mathlib.Core.List.{List}
 use Prim.Native.Nat.{ℕ, ◌-◌, ◌≤◌}
 use Rattle.logic.specs.Term.{Term}
-use Rattle.rules.specs.Scope.{scope-words, Binders}
+use Rattle.rules.specs.Scope.{scope_words, Binders}
 use Rattle.rules.specs.Variable.{BinderFound}
 use borrow.Author.Rules.{rules}
 use native.Mathlib.Omega.{arith}
@@ -13,7 +13,7 @@ use Rattle.rules.proofs.scope.binder.Tie as tie
 
 abbrev invariant-loop : tie.invariant-loop
 invariant-loop ws floor used n kept₀ left₀ kept left =
-    (left ≤ n) × ((proof : List ℕ) (Γ : List Term) → Binders proof (scope-words floor used ws) Γ → BinderFound proof ws floor used (n - left) Γ kept)
+    (left ≤ n) × ((proof : List ℕ) (Γ : List Term) → Binders proof (scope_words floor used ws) Γ → BinderFound proof ws floor used (n - left) Γ kept)
 
 abbrev decreases-loop : tie.decreases-loop
 decreases-loop ws floor used n kept₀ left₀ kept left = kept
@@ -27,7 +27,7 @@ next : (c : tie.In-loop invariant-loop decreases-loop) → EntryStep c.before.be
 next c =
     let l = c.before in
     let s = l.before in
-    entry-step c.loop-test.true s.requires.inside (reached l)
+    entry_step c.loop-test.true s.requires.inside (reached l)
 
 loop-holds : tie.Need-loop-init invariant-loop decreases-loop
 loop-holds c = (omega arith, λ proof Γ b. passed_none c.args.n c.requires.below b)
@@ -36,7 +36,7 @@ returns : tie.Need-returns invariant-loop decreases-loop
 returns c =
     let l = c.before.before in
     let s = l.before in
-    λ proof Γ b. passed-n l.loop.left s.args.n c.if1.true (l.loop.invariant.1 proof Γ b)
+    λ proof Γ b. passed_n l.loop.left s.args.n c.if1.true (l.loop.invariant.1 proof Γ b)
 
 sub-kept : tie.Need-overflow-sub-kept invariant-loop decreases-loop
 sub-kept c = let r = reached c.before.before in omega arith
@@ -64,7 +64,7 @@ loop-again c =
     let l = c.before.before.before in
     let s = l.before in (
       omega arith,
-      λ proof Γ b. passed-one l.loop.left s.args.n c.before.before.loop-test.true s.requires.inside (omega arith) l.loop.invariant.0
+      λ proof Γ b. passed_one l.loop.left s.args.n c.before.before.loop-test.true s.requires.inside (omega arith) l.loop.invariant.0
           (l.loop.invariant.1 proof Γ b),
     )
 
@@ -72,7 +72,7 @@ returns-2 : tie.Need-returns-2 invariant-loop decreases-loop
 returns-2 c =
     let l = c.before in
     let s = l.before in
-    λ proof Γ b. passed-all l.loop.left s.args.n l.loop.invariant.0 c.loop-test.false (l.loop.invariant.1 proof Γ b)
+    λ proof Γ b. passed_all l.loop.left s.args.n l.loop.invariant.0 c.loop-test.false (l.loop.invariant.1 proof Γ b)
 
 pub binder-spec : {M : Type 1} → statement M
 binder-spec =

@@ -1,11 +1,11 @@
 -- `variable` gives a variable's type: no binder has its number, or the type is too long, or it is raised to where the
 -- variable stands, by way of the small buffer or the large one.
 use mathlib.Core.Bool.{cond}
-use Rattle.rules.proofs.Variables.{cond-true, cond-false, Entry, entry_of, variable-unbound, variable-long, looked-up, variable-found}
-use Rattle.rules.specs.Scope.{scope-words, entry-head, Binders}
+use Rattle.rules.proofs.Variables.{cond_true, cond_false, Entry, entry_of, variable_unbound, variable_long, looked_up, variable_found}
+use Rattle.rules.specs.Scope.{scope_words, entry_head, Binders}
 use Rattle.rules.specs.Variable.{Raisable}
 use Rattle.words.specs.Lookup.{part_of}
-use Rattle.words.proofs.Places.{at-end}
+use Rattle.words.proofs.Places.{at_end}
 use Rattle.words.specs.Place.{Is}
 use Rattle.logic.specs.Term.{Term}
 use lib.Dec.{ltb}
@@ -22,7 +22,7 @@ use Rattle.rules.proofs.scope.variable.Tie as tie
 -- the entry that was found, of any binders whose words are kept, and of those that `requires` brought
 entry-for : (c : tie.Else1) (Γ : List Term) →
     Binders c.before.before.before.before.before.args.proof.now
-    (scope-words c.before.before.before.before.before.args.floor c.before.before.before.before.before.args.used
+    (scope_words c.before.before.before.before.before.args.floor c.before.before.before.before.before.args.used
     c.before.before.before.before.before.args.ws.now) Γ →
     Entry c.before.before.before.before.before.args.proof.now c.before.before.before.before.before.args.ws.now
     c.before.binder.result c.before.before.before.before.before.args.n Γ
@@ -58,34 +58,34 @@ before-large c = c.before.before.before
 -- where the type starts
 from_is : (c : tie.Joined3) →
     let at-binder = before-else1 (before-else2 (before-joined3 c)) in
-    let at-start = before-binder at-binder in
-    let a = at-start.args in
-    c.if3.from ≡ cond (ltb entry-head (get_or a.ws.now (length a.ws.now - at-binder.binder.result) 0))
+    let at_start = before-binder at-binder in
+    let a = at_start.args in
+    c.if3.from ≡ cond (ltb entry_head (get_or a.ws.now (length a.ws.now - at-binder.binder.result) 0))
     (length a.ws.now - at-binder.binder.result +
     (get_or a.ws.now (length a.ws.now - at-binder.binder.result) 0 - get_or a.ws.now (length a.ws.now - at-binder.binder.result + 2)
     0)) (get_or a.ws.now (length a.ws.now - at-binder.binder.result + 1) 0)
-from_is c = ⊎_elim (λ w. cond-true _ _ _ w.0.taken w.1) (λ w. cond-false _ _ _ w.0.left w.1) c.if3.branch
+from_is c = ⊎_elim (λ w. cond_true _ _ _ w.0.taken w.1) (λ w. cond_false _ _ _ w.0.left w.1) c.if3.branch
 
 -- the part that is looked up is the type's words
 part : (c : tie.Joined3) (Γ : List Term) →
     let at-else1 = before-else2 (before-joined3 c) in
     let at-binder = before-else1 at-else1 in
     let a = (before-binder at-binder).args in
-    (b : Binders a.proof.now (scope-words a.floor a.used a.ws.now) Γ) →
+    (b : Binders a.proof.now (scope_words a.floor a.used a.ws.now) Γ) →
     Is
-    (part_of a.proof.now a.ws.now (ltb entry-head (get_or a.ws.now (length a.ws.now - at-binder.binder.result) 0)) c.if3.from
+    (part_of a.proof.now a.ws.now (ltb entry_head (get_or a.ws.now (length a.ws.now - at-binder.binder.result) 0)) c.if3.from
     (c.if3.from + get_or a.ws.now (length a.ws.now - at-binder.binder.result + 2) 0)) (entry-for at-else1 Γ b).type
 part c Γ b =
     let at-else1 = before-else2 (before-joined3 c) in
-    let at-start = before-binder (before-else1 at-else1) in
-    looked-up at-start.args.at (entry-for at-else1 Γ b) (from_is c) refl
+    let at_start = before-binder (before-else1 at-else1) in
+    looked_up at_start.args.at (entry-for at-else1 Γ b) (from_is c) refl
 
 raisable : (c : tie.Joined3) (room : ℕ) →
     let at-binder = before-else1 (before-else2 (before-joined3 c)) in
-    let at-start = before-binder at-binder in
-    let a = at-start.args in
+    let at_start = before-binder at-binder in
+    let a = at_start.args in
     get_or a.ws.now (length a.ws.now - at-binder.binder.result + 2) 0 ≤ room → Raisable a.proof.now a.ws.now
-    (ltb entry-head (get_or a.ws.now (length a.ws.now - at-binder.binder.result) 0)) c.if3.from
+    (ltb entry_head (get_or a.ws.now (length a.ws.now - at-binder.binder.result) 0)) c.if3.from
     (get_or a.ws.now (length a.ws.now - at-binder.binder.result + 2) 0) a.n a.at room
 raisable c room l =
     let at-else2 = before-joined3 c in
@@ -96,8 +96,8 @@ raisable c room l =
     record {
       type = e.type;
       part = part c s.pre.Γ s.pre.binders;
-      inside = (omega arith, omega (arith, at-end e.here, e.type-words));
-      type-words = e.type-words;
+      inside = (omega arith, omega (arith, at_end e.here, e.type_words));
+      type_words = e.type_words;
       small = at-else2.if2.left;
       fits = l;
       number = s.pre.number;
@@ -116,7 +116,7 @@ same_length c = search rules
 returns : tie.Need-returns
 returns c =
     let s = c.before.before.before.before.before in
-    λ Γ b r. variable-unbound s.args.at c.if1.true (c.before.binder.ensures s.args.proof.now Γ b)
+    λ Γ b r. variable_unbound s.args.at c.if1.true (c.before.binder.ensures s.args.proof.now Γ b)
 
 sub-head : tie.Need-overflow-sub-head
 sub-head c = let e = entry c in omega (arith, e.fits)
@@ -170,7 +170,7 @@ returns-2 : tie.Need-returns-2
 returns-2 c =
     let at-else1 = c.before.before.before.before in
     let s = before-binder (before-else1 at-else1) in
-    λ Γ b r. variable-long s.args.at (entry-for at-else1 Γ b) (omega (arith, c.if2.true))
+    λ Γ b r. variable_long s.args.at (entry-for at-else1 Γ b) (omega (arith, c.if2.true))
 
 sub-from : tie.Need-overflow-sub-from
 sub-from c = let e = entry c.before.before.before.before.before in omega (arith, e.within c.if3.true)
@@ -192,8 +192,8 @@ returns-3 c =
     let at-joined3 = before_small c.before.before.before.before in
     let at-else2 = before-joined3 at-joined3 in
     let at-else1 = before-else2 at-else2 in
-    let at-start = before-binder (before-else1 at-else1) in
-    λ Γ b r. variable-found at-start.args.at (entry-for at-else1 Γ b) at-else2.if2.left (part at-joined3 Γ b)
+    let at_start = before-binder (before-else1 at-else1) in
+    λ Γ b r. variable_found at_start.args.at (entry-for at-else1 Γ b) at-else2.if2.left (part at-joined3 Γ b)
     c.before.before.before.raised.ensures r
 
 slice-aggregate-raised-2 : tie.Need-slice-aggregate-raised-2
@@ -210,8 +210,8 @@ returns-4 c =
     let at-joined3 = before-large c.before.before.before.before in
     let at-else2 = before-joined3 at-joined3 in
     let at-else1 = before-else2 at-else2 in
-    let at-start = before-binder (before-else1 at-else1) in
-    λ Γ b r. variable-found at-start.args.at (entry-for at-else1 Γ b) at-else2.if2.left (part at-joined3 Γ b)
+    let at_start = before-binder (before-else1 at-else1) in
+    λ Γ b r. variable_found at_start.args.at (entry-for at-else1 Γ b) at-else2.if2.left (part at-joined3 Γ b)
     c.before.before.before.raised2.ensures r
 
 pub variable-spec : {M : Type 1} → statement M

@@ -1,7 +1,7 @@
 -- `view_of` gives the register's length, which is lent with it, and what its header says.
 use mathlib.Core.Path.{ap, ◌∙◌}
 use lib.ListN.{length}
-use Rattle.search.specs.Sources.{records-up-to}
+use Rattle.search.specs.Sources.{records_up_to}
 use Rattle.records.specs.declared.header.Header.{Header}
 use Rattle.search.specs.declared.statement.Source.{Source}
 use Rattle.search.specs.declared.view.View.{View}
@@ -20,7 +20,7 @@ returns c =
     let n = length c.before.before.before.args.register.now in
     let h = c.before.read-header.result in
     ap (λ (s : Source). let v : View = record { size = n; used = h.used; latest = h.latest; source = s } in v) c.source_of.ensures
-    ∙ ap (λ (h : Header). let v : View = record { size = n; used = h.used; latest = h.latest; source = records-up-to h.used } in v)
+    ∙ ap (λ (h : Header). let v : View = record { size = n; used = h.used; latest = h.latest; source = records_up_to h.used } in v)
     c.before.read-header.ensures
 
 pub view-of-spec : {M : Type 1} → statement M

@@ -6,7 +6,7 @@ use mathlib.Core.List.{List}
 use Rattle.logic.specs.Term.{encode}
 use Rattle.logic.specs.SignatureList.{constant as constant-type}
 use Rattle.signature.specs.Listing.{succeeded}
-use Rattle.signature.proofs.Listings.{permit-passes, receipt-passes}
+use Rattle.signature.proofs.Listings.{permit_passes, receipt_passes}
 use borrow.Author.Rules.{rules}
 use Rattle.signature.proofs.list.common.Statement.{statement}
 use Rattle.signature.proofs.list.common.Tie as tie
@@ -19,7 +19,7 @@ same-requires c κs = search rules
 
 returns : tie.Need-returns
 unfolding encode
-returns c = λ Σ e. ap (λ (l : List ℕ). succeeded (constant-type Σ l)) (c.before.same.ensures.0 c.if1.true) ∙ permit-passes Σ
+returns c = λ Σ e. ap (λ (l : List ℕ). succeeded (constant-type Σ l)) (c.before.same.ensures.0 c.if1.true) ∙ permit_passes Σ
 
 slice-aggregate-same-2 : tie.Need-slice-aggregate-same-2
 slice-aggregate-same-2 c = search rules
@@ -29,7 +29,7 @@ same-requires-2 c κs = search rules
 
 returns-2 : tie.Need-returns-2
 unfolding encode
-returns-2 c = λ Σ e. ap (λ (l : List ℕ). succeeded (constant-type Σ l)) (c.same2.ensures.0 e) ∙ receipt-passes Σ
+returns-2 c = λ Σ e. ap (λ (l : List ℕ). succeeded (constant-type Σ l)) (c.same2.ensures.0 e) ∙ receipt_passes Σ
 
 pub common-spec : {M : Type 1} → statement M
 common-spec =

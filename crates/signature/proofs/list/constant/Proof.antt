@@ -4,12 +4,12 @@ use Prim.Native.Nat.{ℕ, ◌+◌, ◌-◌}
 use mathlib.Core.Path.{◌≡◌, refl, sym, ap, subst, ◌∙◌}
 use mathlib.Core.List.{List}
 use lib.ListN.{length, take, drop, get_or}
-use Rattle.logic.specs.Limits.{most-words, most-nesting}
+use Rattle.logic.specs.Limits.{most_words, most_nesting}
 use Rattle.logic.specs.Term.{Term, kindPA}
 use Rattle.logic.specs.SignatureList.{constant as constant-type}
-use Rattle.typing.specs.Check.{ConstantsOf, typed-term, Judged}
+use Rattle.typing.specs.Check.{ConstantsOf, typed_term, Judged}
 use Rattle.signature.specs.Listing.{succeeded}
-use Rattle.signature.proofs.Listings.{no-length-word, too-many-words, known-type, cut_off, constant-not-typed, typed-kind}
+use Rattle.signature.proofs.Listings.{no_length_word, too_many_words, known_type, cut_off, constant_not_typed, typed_kind}
 use native.Mathlib.Omega.{arith}
 use borrow.Author.Rules.{rules}
 use Rattle.signature.proofs.list.constant.Statement.{statement}
@@ -43,19 +43,19 @@ before-ws c = c.before
 
 -- what the check of the constant's words tells
 judged : (c : tie.After-check-term) (Σ : List Term) →
-    let at-start = before-else1 (before-else2 (before-else3 (before-common (before-check-term c)))) in
-    let a = at-start.args in
+    let at_start = before-else1 (before-else2 (before-else3 (before-common (before-check-term c)))) in
+    let a = at_start.args in
     ConstantsOf a.sig.now a.table.now Σ
-    → Judged (typed-term Σ most-words most-nesting (take (get_or a.sig.now a.at 0) (drop (a.at + 1) a.sig.now)))
-    (length (take (a.at + 1 + get_or a.sig.now a.at 0 - (a.at + 1)) (drop (a.at + 1) a.sig.now))) c.check-term.new.1.1.1.1.1.0
-    c.check-term.result
+    → Judged (typed_term Σ most_words most_nesting (take (get_or a.sig.now a.at 0) (drop (a.at + 1) a.sig.now)))
+    (length (take (a.at + 1 + get_or a.sig.now a.at 0 - (a.at + 1)) (drop (a.at + 1) a.sig.now))) c.check_term.new.1.1.1.1.1.0
+    c.check_term.result
 judged c Σ C =
-    let at-start = before-else1 (before-else2 (before-else3 (before-common (before-check-term c)))) in
-    let s = at-start.args in
+    let at_start = before-else1 (before-else2 (before-else3 (before-common (before-check-term c)))) in
+    let s = at_start.args in
     subst
-    (λ (l : List ℕ). Judged (typed-term Σ most-words most-nesting l)
+    (λ (l : List ℕ). Judged (typed_term Σ most_words most_nesting l)
     (length (take (s.at + 1 + get_or s.sig.now s.at 0 - (s.at + 1)) (drop (s.at + 1) s.sig.now)))
-    c.check-term.new.1.1.1.1.1.0 c.check-term.result) (lent s.sig.now s.at) (c.check-term.ensures Σ C)
+    c.check_term.new.1.1.1.1.1.0 c.check_term.result) (lent s.sig.now s.at) (c.check_term.ensures Σ C)
 
 mul-n : tie.Need-overflow-mul-n
 mul-n c = search rules
@@ -67,12 +67,12 @@ cast-n : tie.Need-overflow-cast-n
 cast-n c = omega (arith, c.shared-slice-known3.given c.before.before.before.before.args.at)
 
 returns : tie.Need-returns
-returns c = let s = c.before.before.before.before.before in λ Σ C. no-length-word Σ s.args.sig.now s.args.at s.requires.inside c.if1.true
+returns c = let s = c.before.before.before.before.before in λ Σ C. no_length_word Σ s.args.sig.now s.args.at s.requires.inside c.if1.true
 
 returns-2 : tie.Need-returns-2
 returns-2 c =
     let s = before-else1 c.before in
-    λ Σ C. too-many-words Σ s.args.sig.now s.args.at s.pre.inside c.if2.true
+    λ Σ C. too_many_words Σ s.args.sig.now s.args.at s.pre.inside c.if2.true
 
 add_start : tie.Need-overflow-add-start
 add_start c = search rules
@@ -111,7 +111,7 @@ returns-4 c =
     let at-else1 = before-else2 at-else2 in
     let s = before-else1 at-else1 in
     let a = s.args in
-    λ Σ C. known-type Σ a.sig.now a.at s.pre.inside at-else1.if1.left at-else2.if2.left at-else3.if3.left
+    λ Σ C. known_type Σ a.sig.now a.at s.pre.inside at-else1.if1.left at-else2.if2.left at-else3.if3.left
     (ap (λ (l : List ℕ). succeeded (constant-type Σ l)) (sym (lent a.sig.now a.at)) ∙ at-common.common.ensures Σ c.if4.true)
 
 add-check-term : tie.Need-overflow-add-check-term
@@ -151,8 +151,8 @@ returns-5 c =
     let at-else2 = before-else3 at-else3 in
     let at-else1 = before-else2 at-else2 in
     let s = before-else1 at-else1 in
-    λ Σ C. constant-not-typed Σ s.args.sig.now s.args.at s.pre.inside at-else1.if1.left at-else2.if2.left at-else3.if3.left _
-    at-check-term.check-term.result _ _ _ (judged at-check-term Σ C) c.enum_told.given.1
+    λ Σ C. constant_not_typed Σ s.args.sig.now s.args.at s.pre.inside at-else1.if1.left at-else2.if2.left at-else3.if3.left _
+    at-check-term.check_term.result _ _ _ (judged at-check-term Σ C) c.enum_told.given.1
 
 same-length-2 : tie.Need-same-length-2
 same-length-2 c = search rules
@@ -164,8 +164,8 @@ returns-6 c =
     let at-else2 = before-else3 at-else3 in
     let at-else1 = before-else2 at-else2 in
     let s = before-else1 at-else1 in
-    λ Σ C. typed-kind Σ s.args.sig.now s.args.at s.pre.inside at-else1.if1.left at-else2.if2.left at-else3.if3.left _
-    at-check-term.check-term.result _ _ _ c.front-is.result (judged at-check-term Σ C) c.before.before.enum-told2.given.1
+    λ Σ C. typed_kind Σ s.args.sig.now s.args.at s.pre.inside at-else1.if1.left at-else2.if2.left at-else3.if3.left _
+    at-check-term.check_term.result _ _ _ c.front-is.result (judged at-check-term Σ C) c.before.before.enum-told2.given.1
     (λ A h. c.front-is.ensures A kindPA h refl tt)
 
 pub constant-spec : {M : Type 1} → statement M

@@ -5,8 +5,8 @@ use mathlib.Core.Bool.{true}
 use borrow.Author.Tests.{not-true, not-false}
 use mathlib.Core.Path.{◌≡◌, refl, sym, ◌∙◌}
 use lib.ListN.{length, drop, get_or, length-set}
-use Rattle.signature.specs.Listing.{constant-at}
-use Rattle.signature.proofs.Listings.{ReadUpTo, read-up-to-start, reading-full, reading-bad, reading-done, reading-more, more-inside}
+use Rattle.signature.specs.Listing.{constant_at}
+use Rattle.signature.proofs.Listings.{ReadUpTo, read_up_to_start, reading_full, reading_bad, reading_done, reading_more, more_inside}
 use borrow.Author.Rules.{rules}
 use native.Mathlib.Omega.{arith}
 use Rattle.signature.proofs.list.read_signature.Statement.{statement}
@@ -35,28 +35,28 @@ before-constant c = c.before.before.before
 -- a constant was found good
 fine : (c : tie.Else2 invariant-loop decreases-loop) →
     let at-loop = before-in-loop (before-else1 (before-constant c.before.before.before)) in
-    let at-start = before-loop at-loop in
-    constant-at at-loop.loop.inv.0.Σ (drop at-loop.loop.at at-start.args.sig.now) ≡ true
+    let at_start = before-loop at-loop in
+    constant_at at-loop.loop.inv.0.Σ (drop at-loop.loop.at at_start.args.sig.now) ≡ true
 fine c =
     let at_constant = c.before.before.before in
     let at-loop = before-in-loop (before-else1 (before-constant at_constant)) in
-    let R = at-loop.loop.inv.0 in sym (at_constant.constant.ensures R.Σ R.constants-are) ∙ not-false at_constant.constant.result c.if2.false
+    let R = at-loop.loop.inv.0 in sym (at_constant.constant.ensures R.Σ R.constants_are) ∙ not-false at_constant.constant.result c.if2.false
 
 inside : (c : tie.Else2 invariant-loop decreases-loop) →
     let at-loop = before-in-loop (before-else1 (before-constant c.before.before.before)) in
-    let at-start = before-loop at-loop in
-    at-loop.loop.at + 1 + get_or at-start.args.sig.now at-loop.loop.at 0 ≤ length at-start.args.sig.now
+    let at_start = before-loop at-loop in
+    at-loop.loop.at + 1 + get_or at_start.args.sig.now at-loop.loop.at 0 ≤ length at_start.args.sig.now
 inside c =
     let at-else1 = before-constant c.before.before.before in
     let in-loop = before-else1 at-else1 in
     let at-loop = before-in-loop in-loop in
-    let at-start = before-loop at-loop in
+    let at_start = before-loop at-loop in
     let v = at-loop.loop in
-    more-inside at-start.args.sig.now v.table v.at v.count v.inv.0 in-loop.loop-test.taken at-else1.if1.left
-    (v.inv.1 ∙ at-start.pre.entries) (fine c)
+    more_inside at_start.args.sig.now v.table v.at v.count v.inv.0 in-loop.loop-test.taken at-else1.if1.left
+    (v.inv.1 ∙ at_start.pre.entries) (fine c)
 
 loop-holds : tie.Need-loop-init invariant-loop decreases-loop
-loop-holds c = let s = c.before.before.before in (read-up-to-start s.args.sig.now s.args.table.now, refl, refl)
+loop-holds c = let s = c.before.before.before in (read_up_to_start s.args.sig.now s.args.table.now, refl, refl)
 
 same_length : tie.Need-same-length invariant-loop decreases-loop
 same_length c = search rules
@@ -70,7 +70,7 @@ returns c =
     let at-loop = before-in-loop in-loop in
     let s = before-loop at-loop in
     let v = at-loop.loop in
-    reading-full s.args.sig.now v.table v.at v.count v.inv.0 v.table in-loop.loop-test.true (omega (arith, c.if1.true))
+    reading_full s.args.sig.now v.table v.at v.count v.inv.0 v.table in-loop.loop-test.true (omega (arith, c.if1.true))
 
 slice-reshare-prefix-constant : tie.Need-slice-reshare-prefix-constant invariant-loop decreases-loop
 slice-reshare-prefix-constant c = search rules
@@ -86,7 +86,7 @@ constant-requires c κs =
     let v = at-loop.loop in
     record {
       Σ = v.inv.0.Σ;
-      constants = v.inv.0.constants-are;
+      constants = v.inv.0.constants_are;
       workspace = omega (arith, s.pre.workspace, v.inv.2);
       inside = in-loop.loop-test.taken;
     }
@@ -105,8 +105,8 @@ returns-2 c =
     let s = before-loop at-loop in
     let v = at-loop.loop in
     let R = v.inv.0 in
-    reading-bad s.args.sig.now v.table v.at v.count R v.table in-loop.loop-test.taken
-    (sym (at_constant.constant.ensures R.Σ R.constants-are) ∙ not-true at_constant.constant.result c.if2.true)
+    reading_bad s.args.sig.now v.table v.at v.count R v.table in-loop.loop-test.taken
+    (sym (at_constant.constant.ensures R.Σ R.constants_are) ∙ not-true at_constant.constant.result c.if2.true)
 
 add-table : tie.Need-overflow-add-table invariant-loop decreases-loop
 add-table c = search rules
@@ -131,13 +131,13 @@ shared-slice-read-at c = search rules
 
 cast-at : tie.Need-overflow-cast-at invariant-loop decreases-loop
 cast-at c =
-    let at-start = before-loop (before-in-loop (before-else1 (before-constant c.before.before.before.before))) in
-    omega (arith, inside c.before, at-start.good)
+    let at_start = before-loop (before-in-loop (before-else1 (before-constant c.before.before.before.before))) in
+    omega (arith, inside c.before, at_start.good)
 
 add-at-2 : tie.Need-overflow-add-at-2 invariant-loop decreases-loop
 add-at-2 c =
-    let at-start = before-loop (before-in-loop (before-else1 (before-constant c.before.before.before.before))) in
-    omega (arith, inside c.before, at-start.good)
+    let at_start = before-loop (before-in-loop (before-else1 (before-constant c.before.before.before.before))) in
+    omega (arith, inside c.before, at_start.good)
 
 add-count : tie.Need-overflow-add-count invariant-loop decreases-loop
 add-count c = search rules
@@ -153,7 +153,7 @@ loop-again c =
     let at-loop = before-in-loop in-loop in
     let s = before-loop at-loop in
     let v = at-loop.loop in (
-      reading-more s.args.sig.now v.table v.at v.count v.inv.0 in-loop.loop-test.taken at-else1.if1.left
+      reading_more s.args.sig.now v.table v.at v.count v.inv.0 in-loop.loop-test.taken at-else1.if1.left
           (v.inv.1 ∙ s.pre.entries) (fine c.before),
       length-set v.table v.count (v.at + 1) ∙ v.inv.1,
       at_constant.constant.auto.1.1.1.0 ∙ v.inv.2,
@@ -169,7 +169,7 @@ returns-3 : tie.Need-returns-3 invariant-loop decreases-loop
 returns-3 c =
     let s = c.before.before.before.before.before in
     let v = c.before.loop in
-    reading-done s.args.sig.now v.table v.at v.count v.invariant.0 c.loop-test.false
+    reading_done s.args.sig.now v.table v.at v.count v.invariant.0 c.loop-test.false
 
 pub read-signature-spec : {M : Type 1} → statement M
 read-signature-spec =

@@ -1,7 +1,7 @@
 -- Behind the last turn: its refusal, 25, or the result, which is copied into the output.
 use native.Mathlib.Omega.{arith}
 use borrow.Author.Rules.{rules}
-use Rattle.simplify.proofs.Calls.{last-refused, last-short, last_written}
+use Rattle.simplify.proofs.Calls.{last_refused, last_short, last_written}
 use Rattle.simplify.proofs.reduce.ended.Statement.{statement}
 use Rattle.simplify.proofs.reduce.ended.Tie as tie
 
@@ -11,13 +11,13 @@ enum-known-last c = search rules
 returns : tie.Need-returns
 returns c =
     let a = c.before.before.before.before.before.args in
-    λ t h e. last-refused a.last a.steps a.output.now c.before.last.given.1 t
+    λ t h e. last_refused a.last a.steps a.output.now c.before.last.given.1 t
 
 returns-2 : tie.Need-returns-2
 returns-2 c =
     let k = c.before in
     let a = k.before.before.before.args in
-    λ t h e. last-short a.last a.steps a.output.now k.match.keys2 t e c.if1.true
+    λ t h e. last_short a.last a.steps a.output.now k.match.keys2 t e c.if1.true
 
 copy-requires : tie.Need-copy-requires
 copy-requires c κs = let s = c.before.before.before.before.before in (omega (arith, s.requires), omega (arith, c.before.if1.false))

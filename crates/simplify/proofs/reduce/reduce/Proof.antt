@@ -6,9 +6,9 @@ use mathlib.Core.Path.{◌≡◌, refl, sym, ap, ◌∙◌}
 use native.Mathlib.Omega.{arith}
 use lib.ListN.{length}
 use borrow.Author.Rules.{rules}
-use Rattle.reduction.specs.Steps.{next-step}
+use Rattle.reduction.specs.Steps.{next_step}
 use Rattle.simplify.specs.Turn.{turned, TurnedTo}
-use Rattle.simplify.proofs.Turns.{StepTurn, first-turn, some_left, next-turn, Looping, turnable, term-within, last-answer}
+use Rattle.simplify.proofs.Turns.{StepTurn, first_turn, some_left, next_turn, Looping, turnable, term_within, last_answer}
 use Rattle.simplify.proofs.reduce.reduce.Statement.{statement}
 use Rattle.simplify.proofs.reduce.reduce.Tie as tie
 
@@ -56,38 +56,38 @@ second c = c.before.before.before.before
 
 -- what the first turn gives
 turned-first : (c : First) → let T = (looped c).loop.invariant.turn in
-    TurnedTo (turned (looped c).loop.left (next-step T.subject.term)) c.take_step.new.1.1.1.0 c.take_step.result
+    TurnedTo (turned (looped c).loop.left (next_step T.subject.term)) c.take_step.new.1.1.1.0 c.take_step.result
 turned-first c = let s = (looped c).loop.invariant.turn.subject in c.take_step.ensures s.term s.here
 
 -- the term in front of `other`
-behind-first : (c : Stepped) → let l = looped (first c) in
+behind_first : (c : Stepped) → let l = looped (first c) in
     StepTurn (start l).args.one.now (start l).args.budget (first c).take_step.new.1.1.1.0 c.first.given.0.0 (l.loop.left - 1)
-behind-first c = next-turn (looped (first c)).loop.inv.turn (turned-first (first c)) c.first.given.1
+behind_first c = next_turn (looped (first c)).loop.inv.turn (turned-first (first c)) c.first.given.1
 
 -- what the second turn gives
-turned-second : (c : Second) → let T = behind-first (stepped c) in
-    TurnedTo (turned ((looped (first (stepped c))).loop.left - 1) (next-step T.subject.term)) c.take-step2.new.1.1.1.0 c.take-step2.result
-turned-second c = let s = (behind-first (stepped c)).subject in c.take-step2.ensures s.term s.here
+turned-second : (c : Second) → let T = behind_first (stepped c) in
+    TurnedTo (turned ((looped (first (stepped c))).loop.left - 1) (next_step T.subject.term)) c.take-step2.new.1.1.1.0 c.take-step2.result
+turned-second c = let s = (behind_first (stepped c)).subject in c.take-step2.ensures s.term s.here
 
 -- the lengths are as they were
 one_kept : (c : Looped) → length c.loop.one ≡ length (start c).args.one.now
 one_kept c = c.loop.invariant.just ∙ sym (start c).requires.just
 
 other-kept : (c : First) → length c.take_step.new.1.1.1.0 ≡ length (start (looped c)).args.other.now
-other-kept c = c.take_step.auto.1.1.1.0 ∙ (looped c).loop.invariant.just-other ∙ sym (start (looped c)).pre.just-other
+other-kept c = c.take_step.auto.1.1.1.0 ∙ (looped c).loop.invariant.just_other ∙ sym (start (looped c)).pre.just_other
 
-output-kept : (c : Looped) → length c.loop.output ≡ length (start c).args.output.now
-output-kept c = ap length c.loop.invariant.same-output
+output_kept : (c : Looped) → length c.loop.output ≡ length (start c).args.output.now
+output_kept c = ap length c.loop.invariant.same_output
 
 -- ---- the needs
 
 loop-holds : tie.Need-loop-init invariant-loop decreases-loop
 loop-holds c =
     let s = c.before.before.before in
-    record { turn = first-turn s.args.budget s.requires.subject; just = s.requires.just; just-other = s.requires.just-other; same-output = refl }
+    record { turn = first_turn s.args.budget s.requires.subject; just = s.requires.just; just_other = s.requires.just_other; same_output = refl }
 
 take-step-requires : tie.Need-take-step-requires invariant-loop decreases-loop
-take-step-requires c κs = let i = c.before.before.loop.invariant in turnable i.turn i.just-other
+take-step-requires c κs = let i = c.before.before.loop.invariant in turnable i.turn i.just_other
 
 enum-known-first : tie.Need-enum-known-first invariant-loop decreases-loop
 enum-known-first c = search rules
@@ -96,7 +96,7 @@ sub-ended : tie.Need-overflow-sub-ended invariant-loop decreases-loop
 sub-ended c = let f = c.before.before.before.before in omega (arith, (looped f).loop.invariant.turn.within)
 
 ended-requires : tie.Need-ended-requires invariant-loop decreases-loop
-ended-requires c κs = let f = c.before.before.before.before.before in term-within (looped f).loop.invariant.turn
+ended-requires c κs = let f = c.before.before.before.before.before in term_within (looped f).loop.invariant.turn
 
 same_length : tie.Need-same-length invariant-loop decreases-loop
 same_length c = let f = c.before.before.before.before.before in one_kept (looped f.before.before.before)
@@ -108,7 +108,7 @@ same-length-3 : tie.Need-same-length-3 invariant-loop decreases-loop
 same-length-3 c =
     let e = c.before.before in
     let f = e.before.before.before in
-    e.ended.auto.1.1.1.1.0 ∙ output-kept (looped f.before.before.before)
+    e.ended.auto.1.1.1.1.0 ∙ output_kept (looped f.before.before.before)
 
 returns : tie.Need-returns invariant-loop decreases-loop
 returns c =
@@ -116,22 +116,22 @@ returns c =
     let k = e.before.before.before in
     let f = k.before.before.before in
     let i = (looped f).loop.invariant in
-    last-answer i.turn f.take_step.result (turned-first f) k.match.keys2 i.same-output e.ended.ensures
+    last_answer i.turn f.take_step.result (turned-first f) k.match.keys2 i.same_output e.ended.ensures
 
 sub-rest : tie.Need-overflow-sub-rest invariant-loop decreases-loop
 sub-rest c = let k = c.before in some_left (looped (first k)).loop.inv.turn (turned-first (first k)) k.first.given.1
 
 take-step-requires-2 : tie.Need-take-step-requires-2 invariant-loop decreases-loop
-take-step-requires-2 c κs = let k = c.before.before.before in turnable (behind-first k) (looped (first k)).loop.inv.just
+take-step-requires-2 c κs = let k = c.before.before.before in turnable (behind_first k) (looped (first k)).loop.inv.just
 
 enum-known-second : tie.Need-enum-known-second invariant-loop decreases-loop
 enum-known-second c = search rules
 
 sub-ended-2 : tie.Need-overflow-sub-ended-2 invariant-loop decreases-loop
-sub-ended-2 c = let d = c.before.before.before.before in omega (arith, (behind-first (stepped d)).within)
+sub-ended-2 c = let d = c.before.before.before.before in omega (arith, (behind_first (stepped d)).within)
 
 ended-requires-2 : tie.Need-ended-requires-2 invariant-loop decreases-loop
-ended-requires-2 c κs = let d = c.before.before.before.before.before in term-within (behind-first (stepped d))
+ended-requires-2 c κs = let d = c.before.before.before.before.before in term_within (behind_first (stepped d))
 
 same-length-4 : tie.Need-same-length-4 invariant-loop decreases-loop
 same-length-4 c =
@@ -150,7 +150,7 @@ same-length-6 c =
     let e = c.before.before in
     let k = e.before.before.before in
     let d = k.before.before.before in
-    e.ended2.auto.1.1.1.1.0 ∙ output-kept (looped (first (stepped d)))
+    e.ended2.auto.1.1.1.1.0 ∙ output_kept (looped (first (stepped d)))
 
 returns-2 : tie.Need-returns-2 invariant-loop decreases-loop
 returns-2 c =
@@ -158,16 +158,16 @@ returns-2 c =
     let k = e.before.before.before in
     let d = k.before.before.before in
     let i = (looped (first (stepped d))).loop.inv in
-    last-answer (behind-first (stepped d)) d.take-step2.result (turned-second d) k.match2.keys2 i.same-output e.ended2.ensures
+    last_answer (behind_first (stepped d)) d.take-step2.result (turned-second d) k.match2.keys2 i.same_output e.ended2.ensures
 
 sub-left : tie.Need-overflow-sub-left invariant-loop decreases-loop
-sub-left c = let k = c.before in let d = second k in some_left (behind-first (stepped d)) (turned-second d) k.second.given.1
+sub-left c = let k = c.before in let d = second k in some_left (behind_first (stepped d)) (turned-second d) k.second.given.1
 
 loop-less : tie.Need-loop-smaller invariant-loop decreases-loop
 loop-less c =
     let k = c.before in
     let d = second k in
-    let l = some_left (behind-first (stepped d)) (turned-second d) k.second.given.1 in
+    let l = some_left (behind_first (stepped d)) (turned-second d) k.second.given.1 in
     omega arith
 
 loop-again : tie.Need-loop-preserved invariant-loop decreases-loop
@@ -177,10 +177,10 @@ loop-again c =
     let f = first (stepped d) in
     let i = (looped f).loop.inv in
     record {
-      turn = next-turn (behind-first (stepped d)) (turned-second d) k.second.given.1;
+      turn = next_turn (behind_first (stepped d)) (turned-second d) k.second.given.1;
       just = d.take-step2.kept.1.1.1.0 ∙ i.just;
-      just-other = f.take_step.kept.1.1.1.0 ∙ i.just-other;
-      same-output = i.same-output;
+      just_other = f.take_step.kept.1.1.1.0 ∙ i.just_other;
+      same_output = i.same_output;
     }
 
 pub reduce-spec : {M : Type 1} → statement M

@@ -5,16 +5,16 @@ use mathlib.Core.Path.{sym, ap, ◌∙◌}
 use native.Mathlib.Omega.{arith}
 use lib.ListN.{length}
 use borrow.Author.Rules.{rules}
-use Rattle.logic.specs.Limits.{most-words}
-use Rattle.logic.specs.Refusals.{term-length, nesting}
+use Rattle.logic.specs.Limits.{most_words}
+use Rattle.logic.specs.Refusals.{term_length, nesting}
 use Rattle.logic.specs.Term.{size}
 use Rattle.logic.specs.Reading.{Plain}
-use Rattle.words.specs.Nesting.{nesting-answer}
-use Rattle.steps.specs.Redex.{redex-answer}
+use Rattle.words.specs.Nesting.{nesting_answer}
+use Rattle.steps.specs.Redex.{redex_answer}
 use Rattle.steps.specs.Step.{SteppedTo}
 use Rattle.steps.proofs.Sites.{TakenAt, taken_at, not_taken}
-use Rattle.simplify.proofs.Taking.{stepped-over, ResultFormed, stepped-done, limit-words, limit-nesting, limits-passed}
-use Rattle.simplify.proofs.Taking.{turn-settled, turn-used, turn-limited, turn-stepped}
+use Rattle.simplify.proofs.Taking.{stepped_over, ResultFormed, stepped_done, limit_words, limit_nesting, limits_passed}
+use Rattle.simplify.proofs.Taking.{turn_settled, turn_used, turn_limited, turn_stepped}
 use Rattle.simplify.proofs.reduce.take_step.Statement.{statement}
 use Rattle.simplify.proofs.reduce.take_step.Tie as tie
 
@@ -48,21 +48,21 @@ step : (c : tie.After-redex) → TakenAt 0 (start (searched c)).requires.term c.
 step c =
     let f = searched c in
     let p = (start f).pre in
-    taken_at 0 _ p.term (sym (f.first_step.ensures p.term p.here) ∙ ap redex-answer c.redex.given.1)
+    taken_at 0 _ p.term (sym (f.first_step.ensures p.term p.here) ∙ ap redex_answer c.redex.given.1)
 
 stepped : (c : tie.After-step-into) → let k = step (left_over (stepping c)) in
     SteppedTo k.u (searched (left_over (stepping c))).first_step.new.1.1.0 c.step-into.new.1.1.1.0 c.step-into.result
 stepped c = let e = stepping c in let p = (origin e).pre in let k = step (left_over e) in c.step-into.ensures p.term k.u p.here k.step
 
-needs-room : (c : tie.Else1) → length (searched (left_over c)).first_step.new.1.1.0 ≤ most-words
+needs-room : (c : tie.Else1) → length (searched (left_over c)).first_step.new.1.1.0 ≤ most_words
 needs-room c = let s = origin c in omega (arith, (searched (left_over c)).first_step.auto.1.1.0, s.pre.just)
 
 result : (c : tie.After-stepped) → let d = formed c in
     ResultFormed (step (left_over (stepping d))).u d.step-into.last.1.1.1.0 c.stepped.given.0.0
     (length (searched (left_over (stepping d))).first_step.new.1.1.0)
-result c = stepped-done (stepped (formed c)) c.stepped.given.1
+result c = stepped_done (stepped (formed c)) c.stepped.given.1
 
-small : (c : tie.After-stepped) → size (step (left_over (stepping (formed c)))).u ≤ most-words
+small : (c : tie.After-stepped) → size (step (left_over (stepping (formed c)))).u ≤ most_words
 small c = let r = needs-room (stepping (formed c)) in omega (arith, (result c).ranges)
 
 plain : (c : tie.After-stepped) → Plain (step (left_over (stepping (formed c)))).u
@@ -89,8 +89,8 @@ returns c =
     let f = c.before.before.before.before in
     let s = start f in
     let p = s.pre in
-    turn-settled s.args.left p.here
-    (not_taken 0 p.term (sym (f.first_step.ensures p.term p.here) ∙ ap redex-answer c.enum_told.given.1))
+    turn_settled s.args.left p.here
+    (not_taken 0 p.term (sym (f.first_step.ensures p.term p.here) ∙ ap redex_answer c.enum_told.given.1))
 
 same-length-2 : tie.Need-same-length-2
 same-length-2 c = search rules
@@ -99,7 +99,7 @@ returns-2 : tie.Need-returns-2
 returns-2 c =
     let r = c.before.before in
     let s = start (searched r) in
-    turn-used s.args.left s.pre.here (step r).step c.if1.true
+    turn_used s.args.left s.pre.here (step r).step c.if1.true
 
 step-into-requires : tie.Need-step-into-requires
 step-into-requires c κs =
@@ -110,7 +110,7 @@ step-into-requires c κs =
       term = p.term;
       here = p.here;
       count = p.count;
-      taken = sym (f.first_step.ensures p.term p.here) ∙ ap redex-answer r.redex.given.1;
+      taken = sym (f.first_step.ensures p.term p.here) ∙ ap redex_answer r.redex.given.1;
       few = omega (arith, p.short);
       fits = omega (arith, p.short, p.just, f.first_step.kept.1.1.0);
     }
@@ -130,9 +130,9 @@ returns-3 c =
     let e = stepping d in
     let s = origin e in
     let k = step (left_over e) in
-    let o = stepped-over (stepped d) c.enum-told2.given.1 in
-    turn-limited s.args.left s.pre.here k.step e.if1.left term-length 0
-    (limit-words k.u (omega (arith, o, (searched (left_over e)).first_step.auto.1.1.0, s.pre.just)))
+    let o = stepped_over (stepped d) c.enum-told2.given.1 in
+    turn_limited s.args.left s.pre.here k.step e.if1.left term_length 0
+    (limit_words k.u (omega (arith, o, (searched (left_over e)).first_step.auto.1.1.0, s.pre.just)))
 
 nested-requires : tie.Need-nested-requires
 nested-requires c κs = let r = c.before.before in record { term = (step (left_over (stepping (formed r)))).u; here = (result r).here (plain r) }
@@ -150,8 +150,8 @@ returns-4 c =
     let e = stepping (formed r) in
     let s = origin e in
     let k = step (left_over e) in
-    turn-limited s.args.left s.pre.here k.step e.if1.left nesting _
-    (limit-nesting k.u _ (small r) (sym (t.nested.ensures k.u ((result r).here (plain r))) ∙ ap nesting-answer c.before.nesting.given.1))
+    turn_limited s.args.left s.pre.here k.step e.if1.left nesting _
+    (limit_nesting k.u _ (small r) (sym (t.nested.ensures k.u ((result r).here (plain r))) ∙ ap nesting_answer c.before.nesting.given.1))
 
 enum-told-3 : tie.Need-enum-told-3
 enum-told-3 c = search rules
@@ -166,8 +166,8 @@ returns-5 c =
     let e = stepping (formed r) in
     let s = origin e in
     let k = step (left_over e) in
-    turn-stepped s.args.left s.pre.here k.step e.if1.left
-    (limits-passed k.u _ (small r) (sym (t.nested.ensures k.u ((result r).here (plain r))) ∙ ap nesting-answer c.enum-told3.given.1))
+    turn_stepped s.args.left s.pre.here k.step e.if1.left
+    (limits_passed k.u _ (small r) (sym (t.nested.ensures k.u ((result r).here (plain r))) ∙ ap nesting_answer c.enum-told3.given.1))
     (result r).count ((result r).here (plain r))
 
 pub take-step-spec : {M : Type 1} → statement M

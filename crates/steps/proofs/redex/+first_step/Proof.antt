@@ -10,12 +10,12 @@ use borrow.Author.Rules.{rules}
 use borrow.Author.Tests.{eqb-true, eqb-false}
 use borrow.Fn.Kinds.{In}
 use borrow.Fn.PlainCycle.{Measures, is, falls, and}
-use Rattle.logic.specs.Term.{Op, lamO, appO, retO, bindO, op-word}
-use Rattle.words.proofs.Places.{at-within, at_left}
+use Rattle.logic.specs.Term.{Op, lamO, appO, retO, bindO, op_word}
+use Rattle.words.proofs.Places.{at_within, at_left}
 use Rattle.parts.proofs.skip.Reads as skip-reads
-use Rattle.steps.specs.Redex.{redex-answer}
-use Rattle.steps.proofs.Redexes.{NodeHere, node-here, first-searchable, second-searchable}
-use Rattle.steps.proofs.Redexes.{place-app-lam, place-app, place-bind-ret, place-unused, place-bound, place_rest, place-second, place_none}
+use Rattle.steps.specs.Redex.{redex_answer}
+use Rattle.steps.proofs.Redexes.{NodeHere, node_here, first_searchable, second_searchable}
+use Rattle.steps.proofs.Redexes.{place_app_lam, place_app, place_bind_ret, place_unused, place_bound, place_rest, place_second, place_none}
 use Rattle.steps.proofs.redex.unused.Reads as unused-reads
 use Rattle.steps.proofs.redex.first_step.Reads as first-step
 use Rattle.steps.proofs.redex.first_step.Kinds as kinds
@@ -96,35 +96,35 @@ module _ (t : ℕ) where
   -- ---- what holds there
 
   within : (s : Start) → s.args.at < length s.args.words.now
-  within s = at-within s.requires.1.here
+  within s = at_within s.requires.1.here
 
-  is-app : (c : AppHere) → let a = (app-start c).args in get_or a.words.now a.at 0 ≡ op-word appO
+  is-app : (c : AppHere) → let a = (app-start c).args in get_or a.words.now a.at 0 ≡ op_word appO
   is-app c = eqb-true _ _ c.if1.true
 
-  is-bind : (c : BindHere) → let a = (bind-start c).args in get_or a.words.now a.at 0 ≡ op-word bindO
+  is-bind : (c : BindHere) → let a = (bind-start c).args in get_or a.words.now a.at 0 ≡ op_word bindO
   is-bind c = eqb-true _ _ c.if3.true
 
   -- the node, of the term that `requires` brought
   app-node : (c : AppHere) → let a = (app-start c).args in NodeHere a.words.now a.at (length a.scratch.now) appO
-  app-node c = node-here appO (is-app c) (app-start c).requires.1
+  app-node c = node_here appO (is-app c) (app-start c).requires.1
 
   bind-node : (c : BindHere) → let a = (bind-start c).args in NodeHere a.words.now a.at (length a.scratch.now) bindO
-  bind-node c = node-here bindO (is-bind c) (bind-start c).requires.1
+  bind-node c = node_here bindO (is-bind c) (bind-start c).requires.1
 
   app-child : (c : AppHere) → let a = (app-start c).args in a.at + 1 < length a.words.now
-  app-child c = at-within (at_left (app-node c).here)
+  app-child c = at_within (at_left (app-node c).here)
 
   bind-child : (c : BindHere) → let a = (bind-start c).args in a.at + 1 < length a.words.now
-  bind-child c = at-within (at_left (bind-node c).here)
+  bind-child c = at_within (at_left (bind-node c).here)
 
   lam-or-ret : (c : SecondOnly) → let a = (second-start c).args in
-      (get_or a.words.now a.at 0 ≡ op-word lamO) ⊎ (get_or a.words.now a.at 0 ≡ op-word retO)
+      (get_or a.words.now a.at 0 ≡ op_word lamO) ⊎ (get_or a.words.now a.at 0 ≡ op_word retO)
   lam-or-ret c = elim c.if6.branch [ inl x ↦ inl (eqb-true _ _ x.taken) | inr x ↦ inr (eqb-true _ _ x.1.taken) ]
 
   second-node : (c : SecondOnly) → let a = (second-start c).args in (o : Op) × NodeHere a.words.now a.at (length a.scratch.now) o
   second-node c =
       let p = (second-start c).requires.1 in
-      elim (lam-or-ret c) [ inl e ↦ (lamO, node-here lamO e p) | inr e ↦ (retO, node-here retO e p) ]
+      elim (lam-or-ret c) [ inl e ↦ (lamO, node_here lamO e p) | inr e ↦ (retO, node_here retO e p) ]
 
   -- ---- the needs
 
@@ -144,13 +144,13 @@ module _ (t : ℕ) where
   shared-slice-read-lam c = let r = app-child c.before in omega arith
 
   returns : lts.Need-returns (calls t) (given t) first-step.Post
-  returns c = place-app-lam (is-app c.before.before) c.if2.true
+  returns c = place_app_lam (is-app c.before.before) c.if2.true
 
   add-first-step : lts.Need-overflow-add-first-step (calls t) (given t) first-step.Post
   add-first-step c = let r = app-child (app c) in omega arith
 
   first-step-requires : lts.Need-first-step-requires (calls t) (given t) first-step.Post
-  first-step-requires c κs = let k = app c.before in let r = app-child k in (omega arith, first-searchable (app-node k) refl)
+  first-step-requires c κs = let k = app c.before in let r = app-child k in (omega arith, first_searchable (app-node k) refl)
 
   same_length : lts.Need-same-length (calls t) (given t) first-step.Post
   same_length c = search rules
@@ -159,7 +159,7 @@ module _ (t : ℕ) where
   returns-2 c =
       let d = c.before.before in
       let e = d.before.before in
-      place-app (is-app (app e)) e.if2.false d.first-step.ensures
+      place_app (is-app (app e)) e.if2.false d.first-step.ensures
 
   add-ret : lts.Need-overflow-add-ret (calls t) (given t) first-step.Post
   add-ret c = let r = bind-child c in omega arith
@@ -171,7 +171,7 @@ module _ (t : ℕ) where
   shared-slice-read-ret c = let r = bind-child c.before in omega arith
 
   returns-3 : lts.Need-returns-3 (calls t) (given t) first-step.Post
-  returns-3 c = place-bind-ret (is-bind c.before.before) c.if4.true
+  returns-3 c = place_bind_ret (is-bind c.before.before) c.if4.true
 
   add-skip : lts.Need-overflow-add-skip (calls t) (given t) first-step.Post
   add-skip c = let r = bind-child c.before.before in omega arith
@@ -180,7 +180,7 @@ module _ (t : ℕ) where
   skip-requires c κs = let n = bind-node c.before.before in record { term = n.a; here = at_left n.here }
 
   unused-requires : lts.Need-unused-requires (calls t) (given t) first-step.Post
-  unused-requires c κs = let k = c.before in second-searchable (bind-node (bind k)) refl k.skip.ensures
+  unused-requires c κs = let k = c.before in second_searchable (bind-node (bind k)) refl k.skip.ensures
 
   same-length-2 : lts.Need-same-length-2 (calls t) (given t) first-step.Post
   same-length-2 c = search rules
@@ -189,7 +189,7 @@ module _ (t : ℕ) where
   returns-4 c =
       let u = c.before.before.before in
       let k = skipped u in
-      place-unused (is-bind (bind k)) k.before.if4.left k.skip.ensures λ b h. sym c.if5.true ∙ u.unused.ensures b h
+      place_unused (is-bind (bind k)) k.before.if4.left k.skip.ensures λ b h. sym c.if5.true ∙ u.unused.ensures b h
 
   add-first-step-2 : lts.Need-overflow-add-first-step-2 (calls t) (given t) first-step.Post
   add-first-step-2 c = let r = bind-child (bind (skipped (counted c))) in omega arith
@@ -199,7 +199,7 @@ module _ (t : ℕ) where
       let u = counted c.before in
       let k = bind (skipped u) in
       let r = bind-child k in
-      (omega arith, first-searchable (bind-node k) u.unused.kept.1.1.0)
+      (omega arith, first_searchable (bind-node k) u.unused.kept.1.1.0)
 
   enum_told : lts.Need-enum-told (calls t) (given t) first-step.Post
   enum_told c = search rules
@@ -216,8 +216,8 @@ module _ (t : ℕ) where
       let e = used d in
       let u = counted e in
       let k = skipped u in
-      place-bound (is-bind (bind k)) k.before.if4.left k.skip.ensures (λ b h. sym e.if5.left ∙ u.unused.ensures b h)
-      (ap redex-answer c.enum-told2.given.1) d.first-step2.ensures
+      place_bound (is-bind (bind k)) k.before.if4.left k.skip.ensures (λ b h. sym e.if5.left ∙ u.unused.ensures b h)
+      (ap redex_answer c.enum-told2.given.1) d.first-step2.ensures
 
   first-step-requires-3 : lts.Need-first-step-requires-3 (calls t) (given t) first-step.Post
   first-step-requires-3 c κs =
@@ -226,7 +226,7 @@ module _ (t : ℕ) where
       let k = skipped u in
       let r = bind-child (bind k) in
       let l = k.skip.ensures _ (at_left (bind-node (bind k)).here) in
-      (omega arith, second-searchable (bind-node (bind k)) (d.first-step2.auto.1.1.0 ∙ u.unused.kept.1.1.0) k.skip.ensures)
+      (omega arith, second_searchable (bind-node (bind k)) (d.first-step2.auto.1.1.0 ∙ u.unused.kept.1.1.0) k.skip.ensures)
 
   same-length-4 : lts.Need-same-length-4 (calls t) (given t) first-step.Post
   same-length-4 c = search rules
@@ -240,7 +240,7 @@ module _ (t : ℕ) where
       let u = counted e in
       let k = skipped u in
       place_rest (is-bind (bind k)) k.before.if4.left k.skip.ensures (λ b h. sym e.if5.left ∙ u.unused.ensures b h)
-      (ap redex-answer m.enum_told.given.1) d.first-step2.ensures f.first-step3.ensures
+      (ap redex_answer m.enum_told.given.1) d.first-step2.ensures f.first-step3.ensures
 
   add-skip-2 : lts.Need-overflow-add-skip-2 (calls t) (given t) first-step.Post
   add-skip-2 c = let r = within (second-start c) in omega arith
@@ -254,7 +254,7 @@ module _ (t : ℕ) where
       let (o, n) = second-node k.before in
       let r = within (second-start k.before) in
       let l = k.skip2.ensures _ (at_left n.here) in
-      (omega arith, second-searchable n refl k.skip2.ensures)
+      (omega arith, second_searchable n refl k.skip2.ensures)
 
   same-length-5 : lts.Need-same-length-5 (calls t) (given t) first-step.Post
   same-length-5 c = search rules
@@ -263,7 +263,7 @@ module _ (t : ℕ) where
   returns-7 c =
       let f = c.before.before in
       let k = f.before.before in
-      place-second (lam-or-ret k.before) k.skip2.ensures f.first-step4.ensures
+      place_second (lam-or-ret k.before) k.skip2.ensures f.first-step4.ensures
 
   returns-8 : lts.Need-returns-8 (calls t) (given t) first-step.Post
   returns-8 c =

@@ -5,8 +5,8 @@ use lib.ListN.{length, take, drop}
 use borrow.Author.Rules.{rules}
 use Rattle.logic.specs.Term.{Term}
 use Rattle.words.specs.Place.{At, Is}
-use Rattle.words.proofs.Places.{at-end, part-is, size_is}
-use Rattle.steps.proofs.Redexes.{same-counts}
+use Rattle.words.proofs.Places.{at_end, part_is, size_is}
+use Rattle.steps.proofs.Redexes.{same_counts}
 use Rattle.steps.proofs.redex.unused.Statement.{statement}
 use Rattle.steps.proofs.redex.unused.Tie as tie
 
@@ -20,7 +20,7 @@ start c = c.before.before.before
 -- the part that is copied is the body
 body_is : (c : tie.After-skip) (b : Term) → let a = (start c).args in At a.words.now a.at b →
     Is (take (c.skip.result - a.at) (drop a.at a.words.now)) b
-body_is c b h = record { plain = h.plain; words = part-is c.skip.result h (c.skip.ensures b h) }
+body_is c b h = record { plain = h.plain; words = part_is c.skip.result h (c.skip.ensures b h) }
 
 record Within (c : tie.After-skip) : Type 0 where
   pub starts : (start c).args.at ≤ c.skip.result
@@ -30,7 +30,7 @@ within : (c : tie.After-skip) → Within c
 within c =
     let p = (start c).requires in
     let e = c.skip.ensures p.term p.here in
-    let l = at-end p.here in
+    let l = at_end p.here in
     record { starts = omega arith; ends = omega arith }
 
 -- ---- the needs
@@ -75,7 +75,7 @@ returns c =
     let e = c.before.before.before.before in
     let d = e.before.before.before.before in
     let k = d.before.before.before in
-    λ b h. same-counts b _ _ (d.shift-into.ensures b (body_is k b h)).free-is (e.shift-into2.ensures b (body_is k b h)).free-is
+    λ b h. same_counts b _ _ (d.shift-into.ensures b (body_is k b h)).free_is (e.shift-into2.ensures b (body_is k b h)).free_is
 
 pub unused_spec : {M : Type 1} → statement M
 unused_spec =

@@ -2,10 +2,10 @@
 use Prim.Native.Nat.{ℕ}
 use mathlib.Core.List.{List, []}
 use Rattle.logic.specs.Term.{Term}
-use Rattle.words.proofs.Verdicts.{refused-told}
+use Rattle.words.proofs.Verdicts.{refused_told}
 use Rattle.typing.specs.Derive.{SubjectAt}
 use Rattle.typing.specs.Check.{ConstantsOf}
-use Rattle.typing.proofs.Checks.{refused-term, TermIn, term_in, ready-term, judged-term}
+use Rattle.typing.proofs.Checks.{refused_term, TermIn, term_in, ready_term, judged_term}
 use native.Mathlib.Omega.{arith}
 use borrow.Author.Rules.{rules}
 use Rattle.typing.proofs.check.check_term.Statement.{statement}
@@ -31,7 +31,7 @@ ready : (c : tie.After-enum-told) (ws : List ℕ) (Σ : List Term) →
 ready c ws Σ C =
     let s = before-term-test (before-enum-told c) in
     let a = s.args in
-    ready-term a.sig.now a.table.now a.term.now ws a.most a.deep Σ (read c).term C (read c).words s.pre.nesting
+    ready_term a.sig.now a.table.now a.term.now ws a.most a.deep Σ (read c).term C (read c).words s.pre.nesting
 
 term-test-requires : tie.Need-term-test-requires
 term-test-requires c κs = search rules
@@ -60,8 +60,8 @@ returns : tie.Need-returns
 returns c =
     let at-term-test = c.before.before.before in
     let a = (before-term-test at-term-test).args in
-    λ Σ C. refused-term Σ a.most a.deep a.term.now a.ws.now _ _
-    (refused-told _ _ _ _ at-term-test.term-test.ensures c.before.tested.given.1)
+    λ Σ C. refused_term Σ a.most a.deep a.term.now a.ws.now _ _
+    (refused_told _ _ _ _ at-term-test.term-test.ensures c.before.tested.given.1)
 
 same_length : tie.Need-same-length
 same_length c = search rules
@@ -71,7 +71,7 @@ returns-2 c =
     let at-enum-told = c.before.before.before.before in
     let a = (before-term-test (before-enum-told at-enum-told)).args in
     let T = read at-enum-told in
-    λ Σ C. judged-term Σ a.most a.deep a.term.now a.ws.now _ T c.before.before.derive.result
+    λ Σ C. judged_term Σ a.most a.deep a.term.now a.ws.now _ T c.before.before.derive.result
     (c.before.before.derive.ensures Σ [] T.term (ready at-enum-told a.ws.now Σ C))
 
 pub check-term-spec : {M : Type 1} → statement M

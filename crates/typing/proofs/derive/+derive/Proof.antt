@@ -13,18 +13,18 @@ use Rattle.logic.specs.Term.{Op, Term, node, size}
 use Rattle.logic.specs.Infer.{infer}
 use Rattle.logic.proofs.Searches.{depth_pos}
 use Rattle.words.specs.Place.{At}
-use Rattle.words.proofs.Places.{at-kind, at-end, at_left}
-use Rattle.logic.proofs.Shapes.{term-kind}
+use Rattle.words.proofs.Places.{at_kind, at_end, at_left}
+use Rattle.logic.proofs.Shapes.{term_kind}
 use Rattle.rules.specs.Rule.{within}
-use Rattle.rules.specs.Form.{level-words}
+use Rattle.rules.specs.Form.{level_words}
 use Rattle.typing.specs.Derive.{SubjectAt, Derived}
 use Rattle.rules.specs.declared.derivation.Derivation.{Derivation}
 use Rattle.rules.specs.declared.derivation.Derivation.TheVariants.{Refused}
-use Rattle.typing.proofs.Tails.{rest_of, whole_of, rest-length, whole_length}
-use Rattle.typing.proofs.Derives.{Derives, carried, BetweenChildren, between-children, Inside, inside-node, signed-in, sign-derived}
-use Rattle.typing.proofs.Derives.{sign-refused, sign-ready}
-use Rattle.typing.proofs.Derives.{first-ready, two_deep, second-ready, level, atom-derived, variable-derived, first-refusal, test-refusal}
-use Rattle.typing.proofs.Derives.{second-refusal, formable, forms-here, node-derived, NodeSubject, SignSubject}
+use Rattle.typing.proofs.Tails.{rest_of, whole_of, rest_length, whole_length}
+use Rattle.typing.proofs.Derives.{Derives, carried, BetweenChildren, between_children, Inside, inside_node, signed_in, sign_derived}
+use Rattle.typing.proofs.Derives.{sign_refused, sign_ready}
+use Rattle.typing.proofs.Derives.{first_ready, two_deep, second_ready, level, atom_derived, variable_derived, first_refusal, test_refusal}
+use Rattle.typing.proofs.Derives.{second_refusal, formable, forms_here, node_derived, NodeSubject, SignSubject}
 use Rattle.typing.proofs.derive.derive.Reads as derive
 use Rattle.typing.proofs.derive.derive.Kinds as kinds
 use Rattle.typing.proofs.derive.+derive.Lts-derive as lts
@@ -35,11 +35,11 @@ use Rattle.rules.proofs.scope.variable.Reads as variable-reads
 use Rattle.results.proofs.sign.sign.Reads as sign_reads
 use Rattle.logic.proofs.word.kind.Reads as kind-reads
 use Rattle.logic.proofs.word.payload_of.Reads as payload-of-reads
-use Rattle.logic.proofs.Words.{size-pos}
-use Rattle.logic.specs.Kind.{kind-node}
+use Rattle.logic.proofs.Words.{size_pos}
+use Rattle.logic.specs.Kind.{kind_node}
 use Rattle.typing.proofs.derive.+derive.{statement}
 use Rattle.typing.proofs.derive.+derive.Tie.{close}
-use Rattle.moves.proofs.Cases.{node-case, sign-case}
+use Rattle.moves.proofs.Cases.{node_case, sign_case}
 
 -- the nesting left
 abbrev μ-derive : Measures 4 kinds.ps ℕ
@@ -84,8 +84,8 @@ Here t s Σ Γ u =
 abbrev Gives : (t : ℕ) (s : lts.Start (calls t) (given t) derive.Post) → List Term → List Term → List ℕ → Derivation → Term → Type 0
 Gives t s Σ Γ new r u = Derived (infer Σ Γ s.args.at u) (s.args.at + size u) s.args.used s.args.ws.now new r
 
-place-within : (t : ℕ) (s : lts.Start (calls t) (given t) derive.Post) → s.args.at < length s.args.proof.now
-place-within t s = let a = at-end s.requires.1.ready.here in let b = size-pos s.requires.1.term in omega arith
+place_within : (t : ℕ) (s : lts.Start (calls t) (given t) derive.Post) → s.args.at < length s.args.proof.now
+place_within t s = let a = at_end s.requires.1.ready.here in let b = size_pos s.requires.1.term in omega arith
 
 deep : (t : ℕ) (s : lts.Start (calls t) (given t) derive.Post) → 0 < s.args.left
 deep t s = let a = s.requires.1.ready.deep in let b = depth_pos s.requires.1.term in omega arith
@@ -113,8 +113,8 @@ before-derive t c = c.before.before
 abbrev before-joined4 : (t : ℕ) → lts.Joined4 (calls t) (given t) derive.Post → lts.Else3 (calls t) (given t) derive.Post
 before-joined4 t c = c.before.before.before
 
-abbrev before-first : (t : ℕ) → lts.After-first (calls t) (given t) derive.Post → lts.Joined4 (calls t) (given t) derive.Post
-before-first t c = c.before.before
+abbrev before_first : (t : ℕ) → lts.After-first (calls t) (given t) derive.Post → lts.Joined4 (calls t) (given t) derive.Post
+before_first t c = c.before.before
 
 abbrev before-inner : (t : ℕ) → lts.After-inner (calls t) (given t) derive.Post → lts.After-derive (calls t) (given t) derive.Post
 before-inner t c = c.before.before.before.before
@@ -133,15 +133,15 @@ before-second t c = c.before.before.before.before
 
 -- of a node: the place where the kind is known, from behind `enter`, and the start, from there
 abbrev node_of : (t : ℕ) → lts.After-enter (calls t) (given t) derive.Post → lts.Else3 (calls t) (given t) derive.Post
-node_of t c = before-joined4 t (before-first t (before_enter t c))
+node_of t c = before-joined4 t (before_first t (before_enter t c))
 
 abbrev start_of : (t : ℕ) → lts.Else3 (calls t) (given t) derive.Post → lts.Start (calls t) (given t) derive.Post
 start_of t c = before-shared-slice-known t (before-kind t (before-else3 t c))
 
 kind-known : (t : ℕ) (c : lts.After-kind (calls t) (given t) derive.Post) (u : Term) →
-    let at-start = before-shared-slice-known t (before-kind t c) in
-    At at-start.args.proof.now at-start.args.at u → c.kind.result ≡ term-kind u
-kind-known t c u h = c.kind.ensures ∙ at-kind h
+    let at_start = before-shared-slice-known t (before-kind t c) in
+    At at_start.args.proof.now at_start.args.at u → c.kind.result ≡ term_kind u
+kind-known t c u h = c.kind.ensures ∙ at_kind h
 
 abbrev SignHere : (t : ℕ) (s : lts.Start (calls t) (given t) derive.Post) → Type 0
 SignHere t s =
@@ -149,24 +149,24 @@ SignHere t s =
     s.args.left s.requires.1.Σ s.requires.1.Γ
 
 sign_at : (t : ℕ) (c : lts.Then3 (calls t) (given t) derive.Post) →
-    let at-start = before-shared-slice-known t (before-kind t (before-then3 t c)) in
-    SignHere t at-start
+    let at_start = before-shared-slice-known t (before-kind t (before-then3 t c)) in
+    SignHere t at_start
 sign_at t c =
-    let at-kind = before-then3 t c in
-    let at-start = before-shared-slice-known t (before-kind t at-kind) in
-    let p = at-start.pre.1 in
-    sign-case (λ u. Here t at-start p.Σ p.Γ u → SignHere t at-start) (kind-known t at-kind) c.if3.true
-    (λ n q h R. record { n = n; q = q; ready-sign = R }) p.term p.ready.here p.ready
+    let at_kind = before-then3 t c in
+    let at_start = before-shared-slice-known t (before-kind t at_kind) in
+    let p = at_start.pre.1 in
+    sign_case (λ u. Here t at_start p.Σ p.Γ u → SignHere t at_start) (kind-known t at_kind) c.if3.true
+    (λ n q h R. record { n = n; q = q; ready_sign = R }) p.term p.ready.here p.ready
 
 -- a node, of any term that stands there
 as-node : (t : ℕ) (c : lts.Else3 (calls t) (given t) derive.Post) (Σ Γ : List Term) (u : Term) (F : Term → Type 0) →
-    let at-start = start_of t c in
-    Here t at-start Σ Γ u → ((o : Op) (a b : Term) → Here t at-start Σ Γ (node o a b) → F (node o a b)) → F u
+    let at_start = start_of t c in
+    Here t at_start Σ Γ u → ((o : Op) (a b : Term) → Here t at_start Σ Γ (node o a b) → F (node o a b)) → F u
 as-node t c Σ Γ u F R f =
-    let at-kind = before-else3 t c in
-    let at-start = before-shared-slice-known t (before-kind t at-kind) in
-    let k : kind-node ≤ at-kind.kind.result = omega (arith, c.before.before.if1.false, c.before.if2.false, c.if3.false) in
-    node-case (λ u. Here t at-start Σ Γ u → F u) (kind-known t at-kind) k (λ o a b e h. f o a b) u R.here R
+    let at_kind = before-else3 t c in
+    let at_start = before-shared-slice-known t (before-kind t at_kind) in
+    let k : kind_node ≤ at_kind.kind.result = omega (arith, c.before.before.if1.false, c.before.if2.false, c.if3.false) in
+    node_case (λ u. Here t at_start Σ Γ u → F u) (kind-known t at_kind) k (λ o a b e h. f o a b) u R.here R
 
 abbrev NodeHere : (t : ℕ) (s : lts.Start (calls t) (given t) derive.Post) → Type 0
 NodeHere t s =
@@ -175,48 +175,48 @@ NodeHere t s =
 
 -- of the term that `requires` brought
 node_at : (t : ℕ) (c : lts.Else3 (calls t) (given t) derive.Post) →
-    let at-start = start_of t c in
-    NodeHere t at-start
+    let at_start = start_of t c in
+    NodeHere t at_start
 node_at t c =
-    let at-start = start_of t c in
-    let p = at-start.pre.1 in
-    as-node t c p.Σ p.Γ p.term (λ u. NodeHere t at-start) p.ready (λ o a b R. record { o = o; a = a; b = b; ready-node = R })
+    let at_start = start_of t c in
+    let p = at_start.pre.1 in
+    as-node t c p.Σ p.Γ p.term (λ u. NodeHere t at_start) p.ready (λ o a b R. record { o = o; a = a; b = b; ready_node = R })
 
 -- the first child starts within the proof
 child-within : (t : ℕ) (c : lts.Else3 (calls t) (given t) derive.Post) →
-    let at-start = start_of t c in
-    at-start.args.at + 1 < length at-start.args.proof.now
-child-within t c = let M = node_at t c in let a = at-end (at_left M.ready-node.here) in let b = size-pos M.a in omega arith
+    let at_start = start_of t c in
+    at_start.args.at + 1 < length at_start.args.proof.now
+child-within t c = let M = node_at t c in let a = at_end (at_left M.ready_node.here) in let b = size_pos M.a in omega arith
 
 child-known : (t : ℕ) (c : lts.After-kind2 (calls t) (given t) derive.Post) (u : Term) →
-    let at-start = start_of t c.before.before in
-    At at-start.args.proof.now (at-start.args.at + 1) u → c.kind2.result ≡ term-kind u
-child-known t c u h = c.kind2.ensures ∙ at-kind h
+    let at_start = start_of t c.before.before in
+    At at_start.args.proof.now (at_start.args.at + 1) u → c.kind2.result ≡ term_kind u
+child-known t c u h = c.kind2.ensures ∙ at_kind h
 
 -- the first child is derived, by either way
 first-derives : (t : ℕ) (c : lts.Joined4 (calls t) (given t) derive.Post) →
-    let at-start = start_of t (before-joined4 t c) in
-    let a = at-start.args in
+    let at_start = start_of t (before-joined4 t c) in
+    let a = at_start.args in
     Derives a.sig.now a.table.now a.proof.now a.ws.now a.floor a.used (a.at + 1) (a.left - 1) c.if4.ws c.if4.first
 first-derives t c =
-    let at-start = start_of t (before-joined4 t c) in
+    let at_start = start_of t (before-joined4 t c) in
     ⊎_elim
     (λ w. carried w.5 w.6
-    (λ Σ Γ u R. atom-derived c.before.kind2.result _ w.2.result w.2.kept.1.1.0 (omega (arith, at-start.pre.1.room)) u
+    (λ Σ Γ u R. atom_derived c.before.kind2.result _ w.2.result w.2.kept.1.1.0 (omega (arith, at_start.pre.1.room)) u
     w.0.taken (child-known t c.before u R.here) R w.2.ensures))
     (λ w. carried w.5 w.6 w.2.ensures)
     c.if4.branch
 
 first-length : (t : ℕ) (c : lts.Joined4 (calls t) (given t) derive.Post) →
-    let at-start = start_of t (before-joined4 t c) in
-    length c.if4.ws ≡ length at-start.args.ws.now
+    let at_start = start_of t (before-joined4 t c) in
+    length c.if4.ws ≡ length at_start.args.ws.now
 first-length t c = ⊎_elim (λ w. ap length w.5 ∙ w.2.kept.1.1.0) (λ w. ap length w.5 ∙ w.2.kept.1.1.1.0) c.if4.branch
 
 -- the workspace keeps its length
 mid-length : (t : ℕ) (c : lts.After-entered (calls t) (given t) derive.Post) →
     let at-enter = before-entered t c in
-    let at-start = start_of t (node_of t at-enter) in
-    length at-enter.enter.last.1.0 ≡ length at-start.args.ws.now
+    let at_start = start_of t (node_of t at-enter) in
+    length at-enter.enter.last.1.0 ≡ length at_start.args.ws.now
 mid-length t c =
     let at-enter = before-entered t c in
     let at-joined4 = at-enter.before.before.before.before.before in
@@ -225,90 +225,90 @@ mid-length t c =
 module _ (t : ℕ) {Σ Γ : List Term} {o : Op} {a b : Term} where
   -- the first child has its type
   first-typed : (c : lts.After-first (calls t) (given t) derive.Post) →
-      let at-joined4 = before-first t c in
-      let at-start = start_of t (before-joined4 t at-joined4) in
-      Here t at-start Σ Γ (node o a b) → BetweenChildren at-start.args.proof.now at-start.args.ws.now at-joined4.if4.ws at-start.args.used
-      at-start.args.at c.first.given.0.1.0 c.first.given.0.0 Σ Γ o a
-  first-typed c R = between-children R _ c.before.before.if4.first _ _ (first-derives t c.before.before) c.first.given.1
+      let at-joined4 = before_first t c in
+      let at_start = start_of t (before-joined4 t at-joined4) in
+      Here t at_start Σ Γ (node o a b) → BetweenChildren at_start.args.proof.now at_start.args.ws.now at-joined4.if4.ws at_start.args.used
+      at_start.args.at c.first.given.0.1.0 c.first.given.0.0 Σ Γ o a
+  first-typed c R = between_children R _ c.before.before.if4.first _ _ (first-derives t c.before.before) c.first.given.1
 
   -- the test on it passed
-  test-passed : (c : lts.After-entered (calls t) (given t) derive.Post) →
+  test_passed : (c : lts.After-entered (calls t) (given t) derive.Post) →
       let at-enter = before-entered t c in
       let at_first = before_enter t at-enter in
-      let at-joined4 = before-first t at_first in
-      let at-start = start_of t (before-joined4 t at-joined4) in
-      (R : Here t at-start Σ Γ (node o a b)) →
-      Inside at-joined4.if4.ws at-enter.enter.last.1.0 at-start.args.used at-start.args.at at_first.first.given.0.0
+      let at-joined4 = before_first t at_first in
+      let at_start = start_of t (before-joined4 t at-joined4) in
+      (R : Here t at_start Σ Γ (node o a b)) →
+      Inside at-joined4.if4.ws at-enter.enter.last.1.0 at_start.args.used at_start.args.at at_first.first.given.0.0
       c.entered.given.0.0 c.entered.given.0.1.0 o a (first-typed at_first R).type
-  test-passed c R =
+  test_passed c R =
       let at-enter = before-entered t c in
       let at_first = before_enter t at-enter in
       let B = first-typed at_first R in
-      inside-node o _ a B.type _ _ _ _ at-enter.enter.result _ _ (at-enter.enter.ensures o a B.type B.enters) c.entered.given.1
+      inside_node o _ a B.type _ _ _ _ at-enter.enter.result _ _ (at-enter.enter.ensures o a B.type B.enters) c.entered.given.1
 
   level-kept : (c : lts.After-entered (calls t) (given t) derive.Post) →
-      let at-start = start_of t (node_of t (before-entered t c)) in
-      Here t at-start Σ Γ (node o a b) → c.entered.given.0.0 + c.entered.given.0.1.0 ≤ at-start.args.used + level-words
+      let at_start = start_of t (node_of t (before-entered t c)) in
+      Here t at_start Σ Γ (node o a b) → c.entered.given.0.0 + c.entered.given.0.1.0 ≤ at_start.args.used + level_words
   level-kept c R =
       let at_first = before_enter t (before-entered t c) in
-      let at-start = start_of t (before-joined4 t (before-first t at_first)) in
-      let p = at-start.pre.1 in level R _ _ _ _ _ _ (first-typed at_first R) (test-passed c R) p.below (mid-length t c) p.room
+      let at_start = start_of t (before-joined4 t (before_first t at_first)) in
+      let p = at_start.pre.1 in level R _ _ _ _ _ _ (first-typed at_first R) (test_passed c R) p.below (mid-length t c) p.room
 
   second-ready-here : (c : lts.After-entered (calls t) (given t) derive.Post) →
       let at-enter = before-entered t c in
       let at_first = before_enter t at-enter in
-      let at-start = start_of t (before-joined4 t (before-first t at_first)) in
-      (R : Here t at-start Σ Γ (node o a b)) →
-      SubjectAt at-start.args.sig.now at-start.args.table.now at-start.args.proof.now
-      (rest_of c.entered.given.0.0 at-enter.enter.last.1.0) at-start.args.floor c.entered.given.0.1.0
-      at_first.first.given.0.1.0 (at-start.args.left - 1) Σ (within o a (first-typed at_first R).type Γ) b
+      let at_start = start_of t (before-joined4 t (before_first t at_first)) in
+      (R : Here t at_start Σ Γ (node o a b)) →
+      SubjectAt at_start.args.sig.now at_start.args.table.now at_start.args.proof.now
+      (rest_of c.entered.given.0.0 at-enter.enter.last.1.0) at_start.args.floor c.entered.given.0.1.0
+      at_first.first.given.0.1.0 (at_start.args.left - 1) Σ (within o a (first-typed at_first R).type Γ) b
   second-ready-here c R =
       let at_first = before_enter t (before-entered t c) in
-      let at-start = start_of t (before-joined4 t (before-first t at_first)) in
-      let p = at-start.pre.1 in second-ready R _ _ _ _ _ _ (first-typed at_first R) (test-passed c R) p.below (mid-length t c) p.room
+      let at_start = start_of t (before-joined4 t (before_first t at_first)) in
+      let p = at_start.pre.1 in second_ready R _ _ _ _ _ _ (first-typed at_first R) (test_passed c R) p.below (mid-length t c) p.room
 
 -- what is kept at the front is a part of the workspace
 keep-fits : (t : ℕ) (c : lts.After-entered (calls t) (given t) derive.Post) →
     c.entered.given.0.0 ≤ length (before-entered t c).enter.new.1.0
 keep-fits t c =
     let at-else3 = node_of t (before-entered t c) in
-    let R = (node_at t at-else3).ready-node in
+    let R = (node_at t at-else3).ready_node in
     omega (arith, level-kept t c R, two_deep R, (start_of t at-else3).pre.1.room, mid-length t c)
 
 -- and has it again behind the second child
 back : (t : ℕ) (c : lts.After-entered (calls t) (given t) derive.Post) (part : List ℕ) →
     let at-enter = before-entered t c in
-    let at-start = start_of t (node_of t at-enter) in
+    let at_start = start_of t (node_of t at-enter) in
     length part ≡ length (rest_of c.entered.given.0.0 at-enter.enter.last.1.0) → length
-    (whole_of c.entered.given.0.0 at-enter.enter.last.1.0 part) ≡ length at-start.args.ws.now
+    (whole_of c.entered.given.0.0 at-enter.enter.last.1.0 part) ≡ length at_start.args.ws.now
 back t c part e =
     let at-enter = before-entered t c in
     whole_length c.entered.given.0.0 at-enter.enter.last.1.0 part (keep-fits t c) e ∙ mid-length t c
 
 mul-word : (t : ℕ) → lts.Need-overflow-mul-word (calls t) (given t) derive.Post
-mul-word t c = let r = place-within t c.before.before.before.before in omega arith
+mul-word t c = let r = place_within t c.before.before.before.before in omega arith
 
 shared-slice-read-word : (t : ℕ) → lts.Need-shared-slice-read-word (calls t) (given t) derive.Post
-shared-slice-read-word t c = let r = place-within t c.before.before.before.before.before in omega arith
+shared-slice-read-word t c = let r = place_within t c.before.before.before.before.before in omega arith
 
 kind-requires : (t : ℕ) → lts.Need-kind-requires (calls t) (given t) derive.Post
 kind-requires t c κs = search rules
 
 atom-requires : (t : ℕ) → lts.Need-atom-requires (calls t) (given t) derive.Post
 atom-requires t c κs =
-    let at-start = before-shared-slice-known t (before-kind t c.before.before) in
-    let p = at-start.pre.1 in
-    record { Σ = p.Σ; declared = p.ready.declared; room = omega (arith, p.room); place = omega (arith, p.short, place-within t at-start) }
+    let at_start = before-shared-slice-known t (before-kind t c.before.before) in
+    let p = at_start.pre.1 in
+    record { Σ = p.Σ; declared = p.ready.declared; room = omega (arith, p.room); place = omega (arith, p.short, place_within t at_start) }
 
 same_length : (t : ℕ) → lts.Need-same-length (calls t) (given t) derive.Post
 same_length t c = search rules
 
 returns : (t : ℕ) → lts.Need-returns (calls t) (given t) derive.Post
 returns t c =
-    let at-kind = c.before.before.before.before.before in
-    let s = before-shared-slice-known t (before-kind t at-kind) in
-    λ Σ Γ u R. atom-derived at-kind.kind.result _ c.before.before.atom.result c.before.before.atom.auto.1.1.0
-    (omega (arith, s.pre.1.room)) u c.before.before.before.before.if1.true (kind-known t at-kind u R.here) R
+    let at_kind = c.before.before.before.before.before in
+    let s = before-shared-slice-known t (before-kind t at_kind) in
+    λ Σ Γ u R. atom_derived at_kind.kind.result _ c.before.before.atom.result c.before.before.atom.auto.1.1.0
+    (omega (arith, s.pre.1.room)) u c.before.before.before.before.if1.true (kind-known t at_kind u R.here) R
     c.before.before.atom.ensures
 
 payload-of-requires : (t : ℕ) → lts.Need-payload-of-requires (calls t) (given t) derive.Post
@@ -316,16 +316,16 @@ payload-of-requires t c κs = search rules
 
 variable-requires : (t : ℕ) → lts.Need-variable-requires (calls t) (given t) derive.Post
 variable-requires t c κs =
-    let at-start = before-shared-slice-known t (before-kind t (before-payload-of t c)) in
-    let p = at-start.pre.1 in
+    let at_start = before-shared-slice-known t (before-kind t (before-payload-of t c)) in
+    let p = at_start.pre.1 in
     record {
       Γ = p.Γ;
       binders = p.ready.binders;
       few = omega (arith, p.ready.few);
-      number = omega (arith, c.payload-of.ensures);
+      number = omega (arith, c.payload_of.ensures);
       below = p.below;
       room = omega (arith, p.room);
-      place = omega (arith, p.short, place-within t at-start);
+      place = omega (arith, p.short, place_within t at_start);
     }
 
 same-length-2 : (t : ℕ) → lts.Need-same-length-2 (calls t) (given t) derive.Post
@@ -334,21 +334,21 @@ same-length-2 t c = search rules
 returns-2 : (t : ℕ) → lts.Need-returns-2 (calls t) (given t) derive.Post
 returns-2 t c =
     let at-payload-of = c.before.before.before in
-    let at-kind = before-payload-of t at-payload-of in
-    let s = before-shared-slice-known t (before-kind t at-kind) in
-    λ Σ Γ u R. variable-derived at-kind.kind.result _ c.before.before.variable.result c.before.before.variable.auto.1.0
-    (omega (arith, s.pre.1.room)) u c.before.before.before.before.before.if2.true (kind-known t at-kind u R.here) R
-    at-payload-of.payload-of.result at-payload-of.payload-of.ensures c.before.before.variable.ensures
+    let at_kind = before-payload-of t at-payload-of in
+    let s = before-shared-slice-known t (before-kind t at_kind) in
+    λ Σ Γ u R. variable_derived at_kind.kind.result _ c.before.before.variable.result c.before.before.variable.auto.1.0
+    (omega (arith, s.pre.1.room)) u c.before.before.before.before.before.if2.true (kind-known t at_kind u R.here) R
+    at-payload-of.payload_of.result at-payload-of.payload_of.ensures c.before.before.variable.ensures
 
 add-derive : (t : ℕ) → lts.Need-overflow-add-derive (calls t) (given t) derive.Post
 add-derive t c =
-    let at-start = before-shared-slice-known t (before-kind t (before-then3 t c.before)) in
-    let r = place-within t at-start in omega arith
+    let at_start = before-shared-slice-known t (before-kind t (before-then3 t c.before)) in
+    let r = place_within t at_start in omega arith
 
 sub-derive : (t : ℕ) → lts.Need-overflow-sub-derive (calls t) (given t) derive.Post
 sub-derive t c =
-    let at-start = before-shared-slice-known t (before-kind t (before-then3 t c.before)) in
-    let r = deep t at-start in omega arith
+    let at_start = before-shared-slice-known t (before-kind t (before-then3 t c.before)) in
+    let r = deep t at_start in omega arith
 
 derive-requires : (t : ℕ) → lts.Need-derive-requires (calls t) (given t) derive.Post
 derive-requires t c κs =
@@ -359,7 +359,7 @@ derive-requires t c κs =
     let d = deep t s in (
       omega arith,
       record
-          { Σ = p.Σ; Γ = []; term = S.q; ready = sign-ready S.ready-sign; short = p.short; below = omega arith; room = omega (arith, p.room) },
+          { Σ = p.Σ; Γ = []; term = S.q; ready = sign_ready S.ready_sign; short = p.short; below = omega arith; room = omega (arith, p.room) },
     )
 
 enum-known-inner : (t : ℕ) → lts.Need-enum-known-inner (calls t) (given t) derive.Post
@@ -375,10 +375,10 @@ returns-3 : (t : ℕ) → lts.Need-returns-3 (calls t) (given t) derive.Post
 returns-3 t c =
     let at-derive = c.before.before.before.before in
     let at-then3 = before-derive t at-derive in
-    let at-kind = before-then3 t at-then3 in
-    let s = before-shared-slice-known t (before-kind t at-kind) in
-    λ Σ Γ u R. sign-refused at-kind.kind.result _ at-derive.derive.result at-derive.derive.auto.1.1.1.0
-    (omega (arith, s.pre.1.room)) u _ _ at-then3.if3.taken (kind-known t at-kind u R.here) R at-derive.derive.ensures
+    let at_kind = before-then3 t at-then3 in
+    let s = before-shared-slice-known t (before-kind t at_kind) in
+    λ Σ Γ u R. sign_refused at_kind.kind.result _ at-derive.derive.result at-derive.derive.auto.1.1.1.0
+    (omega (arith, s.pre.1.room)) u _ _ at-then3.if3.taken (kind-known t at_kind u R.here) R at-derive.derive.ensures
     c.enum_told.given.1
 
 sign-requires : (t : ℕ) → lts.Need-sign-requires (calls t) (given t) derive.Post
@@ -386,11 +386,11 @@ sign-requires t c κs =
     let at_inner = c.before.before in
     let at-derive = before-inner t at_inner in
     let at-then3 = before-derive t at-derive in
-    let at-kind = before-then3 t at-then3 in
-    let s = before-shared-slice-known t (before-kind t at-kind) in
+    let at_kind = before-then3 t at-then3 in
+    let s = before-shared-slice-known t (before-kind t at_kind) in
     let p = s.pre.1 in
-    let S = signed-in p.term at-kind.kind.result _ at-derive.derive.result _ _ at-then3.if3.taken
-    (kind-known t at-kind p.term p.ready.here) p.ready at-derive.derive.ensures at_inner.inner.given.1 in
+    let S = signed_in p.term at_kind.kind.result _ at-derive.derive.result _ _ at-then3.if3.taken
+    (kind-known t at_kind p.term p.ready.here) p.ready at-derive.derive.ensures at_inner.inner.given.1 in
     record { a = S.a; q = S.q; s = S.s; signs = S.signs; short = p.short; room = omega (arith, p.room, at-derive.derive.kept.1.1.1.0) }
 
 same-length-4 : (t : ℕ) → lts.Need-same-length-4 (calls t) (given t) derive.Post
@@ -403,17 +403,17 @@ returns-4 t c =
     let at_inner = c.before.before.before.before.before in
     let at-derive = before-inner t at_inner in
     let at-then3 = before-derive t at-derive in
-    let at-kind = before-then3 t at-then3 in
-    let s = before-shared-slice-known t (before-kind t at-kind) in
-    λ Σ Γ u R. let S = signed-in u at-kind.kind.result _ at-derive.derive.result _ _ at-then3.if3.taken (kind-known t at-kind u R.here)
+    let at_kind = before-then3 t at-then3 in
+    let s = before-shared-slice-known t (before-kind t at_kind) in
+    λ Σ Γ u R. let S = signed_in u at_kind.kind.result _ at-derive.derive.result _ _ at-then3.if3.taken (kind-known t at_kind u R.here)
     R at-derive.derive.ensures at_inner.inner.given.1 in
-    sign-derived S _ c.before.before.sign.result c.before.before.sign.auto.1.0
+    sign_derived S _ c.before.before.sign.result c.before.before.sign.auto.1.0
     (omega (arith, s.pre.1.room, at-derive.derive.kept.1.1.1.0)) (c.before.before.sign.ensures S.a S.q S.s S.signs)
 
 add-head : (t : ℕ) → lts.Need-overflow-add-head (calls t) (given t) derive.Post
 add-head t c =
-    let at-start = start_of t c in
-    let r = place-within t at-start in omega arith
+    let at_start = start_of t c in
+    let r = place_within t at_start in omega arith
 
 mul-head : (t : ℕ) → lts.Need-overflow-mul-head (calls t) (given t) derive.Post
 mul-head t c = let r = child-within t c in omega arith
@@ -426,25 +426,25 @@ kind-requires-2 t c κs = search rules
 
 add-atom : (t : ℕ) → lts.Need-overflow-add-atom (calls t) (given t) derive.Post
 add-atom t c =
-    let at-start = start_of t c.before.before.before.before in
-    let r = place-within t at-start in omega arith
+    let at_start = start_of t c.before.before.before.before in
+    let r = place_within t at_start in omega arith
 
 atom-requires-2 : (t : ℕ) → lts.Need-atom-requires-2 (calls t) (given t) derive.Post
 atom-requires-2 t c κs =
     let at-else3 = c.before.before.before.before in
-    let at-start = start_of t at-else3 in
-    let p = at-start.pre.1 in
+    let at_start = start_of t at-else3 in
+    let p = at_start.pre.1 in
     record { Σ = p.Σ; declared = p.ready.declared; room = omega (arith, p.room); place = omega (arith, p.short, child-within t at-else3) }
 
 add-derive-2 : (t : ℕ) → lts.Need-overflow-add-derive-2 (calls t) (given t) derive.Post
 add-derive-2 t c =
-    let at-start = start_of t c.before.before.before.before in
-    let r = place-within t at-start in omega arith
+    let at_start = start_of t c.before.before.before.before in
+    let r = place_within t at_start in omega arith
 
 sub-derive-2 : (t : ℕ) → lts.Need-overflow-sub-derive-2 (calls t) (given t) derive.Post
 sub-derive-2 t c =
-    let at-start = start_of t c.before.before.before.before in
-    let r = deep t at-start in omega arith
+    let at_start = start_of t c.before.before.before.before in
+    let r = deep t at_start in omega arith
 
 derive-requires-2 : (t : ℕ) → lts.Need-derive-requires-2 (calls t) (given t) derive.Post
 derive-requires-2 t c κs =
@@ -455,7 +455,7 @@ derive-requires-2 t c κs =
     let d = deep t s in (
       omega arith,
       record
-          { Σ = p.Σ; Γ = p.Γ; term = M.a; ready = first-ready M.ready-node; short = p.short; below = p.below; room = omega (arith, p.room) },
+          { Σ = p.Σ; Γ = p.Γ; term = M.a; ready = first_ready M.ready_node; short = p.short; below = p.below; room = omega (arith, p.room) },
     )
 
 enum-known-first : (t : ℕ) → lts.Need-enum-known-first (calls t) (given t) derive.Post
@@ -471,26 +471,26 @@ returns-5 : (t : ℕ) → lts.Need-returns-5 (calls t) (given t) derive.Post
 returns-5 t c =
     let at-joined4 = c.before.before in
     let at-else3 = before-joined4 t at-joined4 in
-    let at-start = start_of t at-else3 in
-    λ Σ Γ u R. as-node t at-else3 Σ Γ u (Gives t at-start Σ Γ at-joined4.if4.ws at-joined4.if4.first) R
-    (λ o a b R. first-refusal _ at-joined4.if4.first _ _ R (first-derives t at-joined4) c.enum-told2.given.1)
+    let at_start = start_of t at-else3 in
+    λ Σ Γ u R. as-node t at-else3 Σ Γ u (Gives t at_start Σ Γ at-joined4.if4.ws at-joined4.if4.first) R
+    (λ o a b R. first_refusal _ at-joined4.if4.first _ _ R (first-derives t at-joined4) c.enum-told2.given.1)
 
 enter-requires : (t : ℕ) → lts.Need-enter-requires (calls t) (given t) derive.Post
 enter-requires t c κs =
     let at_first = c.before.before in
-    let at-joined4 = before-first t at_first in
+    let at-joined4 = before_first t at_first in
     let at-else3 = before-joined4 t at-joined4 in
     let s = start_of t at-else3 in
     let p = s.pre.1 in
     let M = node_at t at-else3 in
-    let B = first-typed t at_first M.ready-node in
-    let d = two_deep M.ready-node in
+    let B = first-typed t at_first M.ready_node in
+    let d = two_deep M.ready_node in
     record {
       o = M.o;
       a = M.a;
       A = B.type;
       enters = B.enters;
-      small = omega (arith, B.enters.type-words, B.small);
+      small = omega (arith, B.enters.type_words, B.small);
       short = p.short;
       room = omega (arith, p.room, d, first-length t at-joined4);
     }
@@ -515,8 +515,8 @@ part-derive-end t c = search rules
 
 sub-derive-4 : (t : ℕ) → lts.Need-overflow-sub-derive-4 (calls t) (given t) derive.Post
 sub-derive-4 t c =
-    let at-start = start_of t (node_of t (before-entered t c.before.before)) in
-    let r = deep t at-start in omega arith
+    let at_start = start_of t (node_of t (before-entered t c.before.before)) in
+    let r = deep t at_start in omega arith
 
 derive-requires-3 : (t : ℕ) → lts.Need-derive-requires-3 (calls t) (given t) derive.Post
 derive-requires-3 t c κs =
@@ -526,8 +526,8 @@ derive-requires-3 t c κs =
     let s = start_of t at-else3 in
     let p = s.pre.1 in
     let M = node_at t at-else3 in
-    let R = M.ready-node in
-    let I = test-passed t at-entered R in (
+    let R = M.ready_node in
+    let I = test_passed t at-entered R in (
       omega (arith, two_deep R, s.pre.0),
       record {
         Σ = p.Σ;
@@ -535,14 +535,14 @@ derive-requires-3 t c κs =
         term = M.b;
         ready = second-ready-here t at-entered R;
         short = p.short;
-        below = omega (arith, p.below, I.kept-is);
+        below = omega (arith, p.below, I.kept_is);
         room = omega (
           arith,
           p.room,
           two_deep R,
           level-kept t at-entered R,
           mid-length t at-entered,
-          rest-length at-entered.entered.given.0.0
+          rest_length at-entered.entered.given.0.0
               at-enter.enter.last.1.0,
         );
       },
@@ -567,12 +567,12 @@ returns-6 t c =
     let at-enter = before-entered t at-entered in
     let at_first = before_enter t at-enter in
     let at-else3 = at_first.before.before.before.before.before in
-    let at-start = start_of t at-else3 in
-    let p = at-start.pre.1 in
+    let at_start = start_of t at-else3 in
+    let p = at_start.pre.1 in
     λ Σ Γ u R. as-node t at-else3 Σ Γ u
-    (Gives t at-start Σ Γ (whole_of at-entered.entered.given.0.0 at-enter.enter.last.1.0 at-derive3.derive3.new.1.1.1.0)
+    (Gives t at_start Σ Γ (whole_of at-entered.entered.given.0.0 at-enter.enter.last.1.0 at-derive3.derive3.new.1.1.1.0)
     at-derive3.derive3.result) R
-    (λ o a b R. second-refusal R _ _ _ _ _ _ (first-typed t at_first R) (test-passed t at-entered R) p.below (mid-length t at-entered) p.room _
+    (λ o a b R. second_refusal R _ _ _ _ _ _ (first-typed t at_first R) (test_passed t at-entered R) p.below (mid-length t at-entered) p.room _
     at-derive3.derive3.result at-derive3.derive3.auto.1.1.1.0 at-derive3.derive3.ensures _ _ c.enum-told3.given.1)
 
 formed-requires : (t : ℕ) → lts.Need-formed-requires (calls t) (given t) derive.Post
@@ -582,11 +582,11 @@ formed-requires t c κs =
     let at-entered = before-derive3 t at-derive3 in
     let at_first = before_enter t (before-entered t at-entered) in
     let at-else3 = at_first.before.before.before.before.before in
-    let at-start = start_of t at-else3 in
-    let p = at-start.pre.1 in
+    let at_start = start_of t at-else3 in
+    let p = at_start.pre.1 in
     let M = node_at t at-else3 in
-    let R = M.ready-node in
-    formable R _ _ _ _ _ _ (first-typed t at_first R) (test-passed t at-entered R) p.below (mid-length t at-entered) p.room _
+    let R = M.ready_node in
+    formable R _ _ _ _ _ _ (first-typed t at_first R) (test_passed t at-entered R) p.below (mid-length t at-entered) p.room _
     at-derive3.derive3.result at-derive3.derive3.kept.1.1.1.0 at-derive3.derive3.ensures _ _ at_second.second.given.1 p.short
 
 same-length-7 : (t : ℕ) → lts.Need-same-length-7 (calls t) (given t) derive.Post
@@ -602,14 +602,14 @@ returns-7 t c =
     let at-entered = before-derive3 t at-derive3 in
     let at_first = before_enter t (before-entered t at-entered) in
     let at-else3 = at_first.before.before.before.before.before in
-    let at-start = start_of t at-else3 in
-    let p = at-start.pre.1 in
-    λ Σ Γ u R. as-node t at-else3 Σ Γ u (Gives t at-start Σ Γ c.before.before.formed.new.1.0 c.before.before.formed.result) R (λ o a b R.
-    node-derived R _ _ _ _ _ _ (first-typed t at_first R) (test-passed t at-entered R) p.below (mid-length t at-entered) p.room _
+    let at_start = start_of t at-else3 in
+    let p = at_start.pre.1 in
+    λ Σ Γ u R. as-node t at-else3 Σ Γ u (Gives t at_start Σ Γ c.before.before.formed.new.1.0 c.before.before.formed.result) R (λ o a b R.
+    node_derived R _ _ _ _ _ _ (first-typed t at_first R) (test_passed t at-entered R) p.below (mid-length t at-entered) p.room _
     at-derive3.derive3.result at-derive3.derive3.kept.1.1.1.0 at-derive3.derive3.ensures _ _ at_second.second.given.1 _
     c.before.before.formed.result c.before.before.formed.auto.1.0
     (c.before.before.formed.ensures o a b _ _
-    (forms-here R _ _ _ _ _ _ (first-typed t at_first R) (test-passed t at-entered R) p.below (mid-length t at-entered) p.room _
+    (forms_here R _ _ _ _ _ _ (first-typed t at_first R) (test_passed t at-entered R) p.below (mid-length t at-entered) p.room _
     at-derive3.derive3.result at-derive3.derive3.kept.1.1.1.0 at-derive3.derive3.ensures _ _ at_second.second.given.1)))
 
 enum-known-entered-2 : (t : ℕ) → lts.Need-enum-known-entered-2 (calls t) (given t) derive.Post
@@ -626,11 +626,11 @@ returns-8 t c =
     let at-enter = c.before.before.before.before.before in
     let at_first = before_enter t at-enter in
     let at-else3 = at_first.before.before.before.before.before in
-    let at-start = start_of t at-else3 in
+    let at_start = start_of t at-else3 in
     λ Σ Γ u R. as-node t at-else3 Σ Γ u
-    (Gives t at-start Σ Γ at-enter.enter.new.1.0 (Refused c.before.entered2.given.0.0 at-start.args.at)) R
+    (Gives t at_start Σ Γ at-enter.enter.new.1.0 (Refused c.before.entered2.given.0.0 at_start.args.at)) R
     (λ o a b R. let B = first-typed t at_first R in
-    test-refusal _ _ _ _ R B at-enter.enter.result _ (at-enter.enter.ensures o a B.type B.enters) c.before.entered2.given.1)
+    test_refusal _ _ _ _ R B at-enter.enter.result _ (at-enter.enter.ensures o a B.type B.enters) c.before.entered2.given.1)
 
 pub +derive-spec : {M : Type 1} → statement M
 +derive-spec = close μ-derive λ t. lts.spec (calls t)

@@ -6,8 +6,8 @@ use borrow.Author.Rules.{rules}
 use Rattle.decimal.specs.Decimal.{comma, feed}
 use Rattle.decimal.proofs.Puts.{put_is}
 use Rattle.number_file.specs.NumberFile.{file}
-use Rattle.write_homes.specs.Printed.{home-line, home-code-line, refusal}
-use Rattle.write_homes.proofs.Prints.{no-list, no_table, long-list, long-table, broken-list, broken-table, Found, read_found, read-shown}
+use Rattle.write_homes.specs.Printed.{home_line, home_code_line, refusal}
+use Rattle.write_homes.proofs.Prints.{no_list, no_table, long_list, long_table, broken_list, broken_table, Found, read_found, read_shown}
 use Rattle.write_homes.proofs.print.print.Statement.{statement}
 use Rattle.write_homes.proofs.print.print.Tie as tie
 
@@ -27,8 +27,8 @@ abbrev list_read : tie.After-known-told → tie.After-read
 list_read c = c.before.before.before.before
 
 -- its count is known, from where the table is read
-abbrev list-known : tie.After-read2 → tie.After-known-told
-list-known c = c.before.before.before.before
+abbrev list_known : tie.After-read2 → tie.After-known-told
+list_known c = c.before.before.before.before
 
 -- the table was read, from where its count is known
 abbrev table-read : tie.After-known-told2 → tie.After-read2
@@ -48,19 +48,19 @@ table-there c = not-false _ c.if2.false
 
 -- the numbers of the files
 homes-found : (c : tie.After-known-told) →
-    Found (file home-line feed (start (both-there (list_read c)).before).args.list.now) c.before.listed.given.0.0
+    Found (file home_line feed (start (both-there (list_read c)).before).args.list.now) c.before.listed.given.0.0
     (list_read c).read.new.1.1.1.0
 homes-found c =
     let r = list_read c in
-    read_found (file home-line feed (start (both-there r).before).args.list.now) r.before.before.before.list-words.result r.read.ensures
+    read_found (file home_line feed (start (both-there r).before).args.list.now) r.before.before.before.list_words.result r.read.ensures
     c.before.listed.given.1
 
 surveys-found : (c : tie.After-known-told2) →
-    Found (file home-code-line comma (start (both-there (list_read (list-known (table-read c)))).before).args.table.now) c.before.tabled.given.0.0
+    Found (file home_code_line comma (start (both-there (list_read (list_known (table-read c)))).before).args.table.now) c.before.tabled.given.0.0
     (table-read c).read2.new.1.1.1.0
 surveys-found c =
     let r = table-read c in
-    read_found (file home-code-line comma (start (both-there (list_read (list-known r))).before).args.table.now)
+    read_found (file home_code_line comma (start (both-there (list_read (list_known r))).before).args.table.now)
     r.before.before.before.table-words.result r.read2.ensures c.before.tabled.given.1
 
 -- ---- the needs
@@ -76,7 +76,7 @@ returns c =
     let r = c.before.before in
     let b = r.before.before in
     let a = b.before.before.before.before.args in
-    put_is a.out.now _ refusal _ 0 _ (no-list a.list-there a.table-there a.list.now a.table.now (not-true _ b.if1.true))
+    put_is a.out.now _ refusal _ 0 _ (no_list a.list-there a.table-there a.list.now a.table.now (not-true _ b.if1.true))
     r.refuse.ensures
 
 refuse-requires-2 : tie.Need-refuse-requires-2
@@ -106,7 +106,7 @@ returns-3 c =
     let t = b.before in
     let a = (start t.before).args in
     put_is a.out.now _ refusal _ 0 _
-    (long-list a.list-there a.table-there a.list.now a.table.now (list-there t) (table-there t) b.if3.true) r.refuse3.ensures
+    (long_list a.list-there a.table-there a.list.now a.table.now (list-there t) (table-there t) b.if3.true) r.refuse3.ensures
 
 refuse-requires-4 : tie.Need-refuse-requires-4
 refuse-requires-4 c κs = search rules
@@ -121,7 +121,7 @@ returns-4 c =
     let t = b.before.before in
     let a = (start t.before).args in
     put_is a.out.now _ refusal _ 0 _
-    (long-table a.list-there a.table-there a.list.now a.table.now (list-there t) (table-there t) b.if4.true) r.refuse4.ensures
+    (long_table a.list-there a.table-there a.list.now a.table.now (list-there t) (table-there t) b.if4.true) r.refuse4.ensures
 
 list-words-requires : tie.Need-list-words-requires
 list-words-requires c κs = search rules
@@ -155,7 +155,7 @@ returns-5 c =
     let t = both-there l in
     let a = (start t.before).args in
     put_is a.out.now _ refusal _ 0 _
-    (broken-list a.list-there a.table-there a.list.now a.table.now (list-there t) (table-there t) l.read.ensures e.enum_told.given.1)
+    (broken_list a.list-there a.table-there a.list.now a.table.now (list-there t) (table-there t) l.read.ensures e.enum_told.given.1)
     r.refuse5.ensures
 
 table-words-requires : tie.Need-table-words-requires
@@ -187,17 +187,17 @@ returns-6 c =
     let r = c.before.before in
     let e = r.before.before in
     let l = e.before.before.before in
-    let t = both-there (list_read (list-known l)) in
+    let t = both-there (list_read (list_known l)) in
     let a = (start t.before).args in
     put_is a.out.now _ refusal _ 0 _
-    (broken-table a.list-there a.table-there a.list.now a.table.now (list-there t) (table-there t) l.read2.ensures e.enum-told2.given.1)
+    (broken_table a.list-there a.table-there a.list.now a.table.now (list-there t) (table-there t) l.read2.ensures e.enum-told2.given.1)
     r.refuse6.ensures
 
 array-share-prefix-homes : tie.Need-array-share-prefix-homes
-array-share-prefix-homes c = (homes-found (list-known (table-read c))).within
+array-share-prefix-homes c = (homes-found (list_known (table-read c))).within
 
 slice-aggregate-print-words : tie.Need-slice-aggregate-print-words
-slice-aggregate-print-words c = (homes-found (list-known (table-read c.before))).count
+slice-aggregate-print-words c = (homes-found (list_known (table-read c.before))).count
 
 array-share-prefix-surveys : tie.Need-array-share-prefix-surveys
 array-share-prefix-surveys c = (surveys-found c.before).within
@@ -215,10 +215,10 @@ returns-7 : tie.Need-returns-7
 returns-7 c =
     let p = c.before.before in
     let k = both-known p in
-    let l = list-known (table-read k) in
+    let l = list_known (table-read k) in
     let t = both-there (list_read l) in
     let a = (start t.before).args in
-    read-shown a.list-there a.table-there a.list.now a.table.now (list-there t) (table-there t) _ _ a.out.now _ _ (homes-found l).is
+    read_shown a.list-there a.table-there a.list.now a.table.now (list-there t) (table-there t) _ _ a.out.now _ _ (homes-found l).is
     (surveys-found k).is p.print-words.ensures
 
 pub print-spec : {M : Type 1} → statement M

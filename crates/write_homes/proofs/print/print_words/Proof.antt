@@ -7,7 +7,7 @@ use lib.ListN.{length}
 use borrow.Author.Rules.{rules}
 use Rattle.decimal.proofs.Puts.{put_is}
 use Rattle.write_homes.specs.Printed.{refusal}
-use Rattle.write_homes.proofs.Prints.{Stepped, step-refused, step-done, step-shown}
+use Rattle.write_homes.proofs.Prints.{Stepped, step_refused, step_done, step_shown}
 use Rattle.write_homes.proofs.print.print_words.Statement.{statement}
 use Rattle.write_homes.proofs.print.print_words.Tie as tie
 
@@ -25,8 +25,8 @@ abbrev stepped-there : tie.Else1 → tie.After-write
 stepped-there c = c.before.before
 
 -- that branch, from where the first line was put
-abbrev not-refused : tie.After-put → tie.Else1
-not-refused c = c.before.before.before
+abbrev not_refused : tie.After-put → tie.Else1
+not_refused c = c.before.before.before
 
 -- the first line was put, from where the words of the step are lent, and from where they were put
 abbrev line-put : tie.After-words3 → tie.After-put
@@ -46,7 +46,7 @@ stepped c =
     let w = stepped-there c in
     let o = words-ready w in
     let a = (start o).args in
-    step-done a.homes.now a.surveys.now (length o.output-words.result) o.output-words.ensures _ _ w.write.result w.write.ensures
+    step_done a.homes.now a.surveys.now (length o.output-words.result) o.output-words.ensures _ _ w.write.result w.write.ensures
     c.if1.false
 
 within : (c : tie.Else1) → 2 * length (start (words-ready (stepped-there c))).args.homes.now ≤ length (stepped-there c).write.new.1.1.0
@@ -77,7 +77,7 @@ returns c =
     let o = words-ready w in
     let a = (start o).args in
     put_is a.out.now _ refusal _ 0 _
-    (step-refused a.homes.now a.surveys.now (length o.output-words.result) o.output-words.ensures _ _ w.write.result w.write.ensures
+    (step_refused a.homes.now a.surveys.now (length o.output-words.result) o.output-words.ensures _ _ w.write.result w.write.ensures
     b.if1.true) r.refuse.ensures
 
 slice-aggregate-put : tie.Need-slice-aggregate-put
@@ -90,18 +90,18 @@ mul-n : tie.Need-overflow-mul-n
 mul-n c = search rules
 
 array-share-prefix-words : tie.Need-array-share-prefix-words
-array-share-prefix-words c = within (not-refused c.before.before)
+array-share-prefix-words c = within (not_refused c.before.before)
 
 slice-aggregate-put-fields : tie.Need-slice-aggregate-put-fields
 slice-aggregate-put-fields c =
-    let b = not-refused (line-put c) in
+    let b = not_refused (line-put c) in
     let w = stepped-there b in
     sym (length-take-le (2 * length (start (words-ready w)).args.homes.now) w.write.last.1.1.0 (within b))
 
 put-fields-requires : tie.Need-put-fields-requires
 put-fields-requires c κs =
     let p = line-put c.before in
-    let b = not-refused p in
+    let b = not_refused p in
     let w = stepped-there b in
     omega (
       arith,
@@ -118,11 +118,11 @@ returns-2 : tie.Need-returns-2
 returns-2 c =
     let f = c.before.before in
     let p = line-put (fields_lent f) in
-    let b = not-refused p in
+    let b = not_refused p in
     let w = stepped-there b in
     let o = words-ready w in
     let a = (start o).args in
-    step-shown a.homes.now a.surveys.now (length o.output-words.result) o.output-words.ensures a.out.now _ _ w.write.last.1.1.0 _ _
+    step_shown a.homes.now a.surveys.now (length o.output-words.result) o.output-words.ensures a.out.now _ _ w.write.last.1.1.0 _ _
     (stepped b) p.put.ensures f.put-fields.ensures
 
 pub print-words-spec : {M : Type 1} → statement M
