@@ -326,20 +326,20 @@ module _ {X : Type 0} {b : Behaviour X} {len : ℕ} {left : List X → List ℕ}
     run_follows : {d : TrialState} {t : Trail X} → Follows d t → (xs : List (TrialCall X)) → Follows (trial_run b d xs) (trail t xs)
     unfolding trial_run trail
     run_follows f [] = f
-    run_follows f (x ∷ xs) = run_follows (call_step f x).follows xs
+    run_follows {d} {t} f (x ∷ xs) = run_follows {d = trial_after b d x} (call_step f x).follows xs
 
     run_answered : {d : TrialState} {t : Trail X} → Follows d t → (xs : List (TrialCall X)) → trial_answers b d xs ≡ answers_along b left t xs
     unfolding trial_answers answers_along
     run_answered f [] = refl
-    run_answered f (x ∷ xs) = ap₂ (λ y ys. y ∷ ys) (call_step f x).answer (run_answered (call_step f x).follows xs)
+    run_answered {d} {t} f (x ∷ xs) = ap₂ (λ y ys. y ∷ ys) (call_step f x).answer (run_answered {d = trial_after b d x} (call_step f x).follows xs)
 
   -- registers with the same content answer alike, with marks and returns too
   answers_alike : {c : Content} {reg reg' : List ℕ} (list : List ℕ) → Stores len c reg → Stores len c reg' → (xs : List (TrialCall X)) →
       trial_answers b (record { register = reg; marks = list }) xs ≡ trial_answers b (record { register = reg'; marks = list }) xs
   unfolding trial_answers
   answers_alike list st st' [] = refl
-  answers_alike list st st' (made x ∷ xs) =
-      ap₂ (λ y ys. y ∷ ys) (ap replied (law.alike st st' x)) (answers_alike list (law.step st x) (law.step st' x) xs)
+  answers_alike {c} list st st' (made x ∷ xs) =
+      ap₂ (λ y ys. y ∷ ys) (ap replied (law.alike st st' x)) (answers_alike {c = next c x} list (law.step st x) (law.step st' x) xs)
   answers_alike {reg} {reg'} list st st' (mark n ∷ xs) =
       let call = unread.marks list n (stores_front st st') in
       ap₂ (λ y ys. y ∷ ys) (ap (λ (r : Result (List Mark)). marked (without_value r)) call)
@@ -349,7 +349,7 @@ module _ {X : Type 0} {b : Behaviour X} {len : ℕ} {left : List X → List ℕ}
       let call = unread.returns list n (stores_front st st') in
       let (c₁, st₁, st₂) = return_left st st' list n (return_call reg list n) refl in
       ap₂ (λ y ys. y ∷ ys) (ap (λ (r : Result Returned). returned (without_value r)) call)
-      (answers_alike (marks_after_return (return_call reg list n) list) st₁ st₂ xs
+      (answers_alike {c = c₁} (marks_after_return (return_call reg list n) list) st₁ st₂ xs
       ∙ ap (λ (r : Result Returned). trial_answers b (record { register = after_return r reg'; marks = marks_after_return r list }) xs) call)
 
   -- ---- what a list amounts to, on a trial register just opened
