@@ -1,12 +1,11 @@
 -- `copy` copies words from a list into another, by a loop. The invariant: the first `i` of them are pasted. The measure
 -- is the number of words left.
-use Prim.Native.Nat.{ℕ, ◌-◌, ◌≤◌}
+use Prim.Native.Nat.{ℕ}
 use mathlib.Core.List.{List}
 use mathlib.Core.Path.{◌≡◌, refl, ap, ◌∙◌}
 use native.Mathlib.Omega.{arith}
 use lib.Seq.{paste, paste-zero}
-use lib.ListN.{length, drop, length-drop, length-set}
-use borrow.Author.Rules.{rules}
+use lib.ListN.{drop, length-drop, length-set}
 use Rattle.words.proofs.Lists.{copy_turn, paste_written}
 use Rattle.parts.proofs.copy.Goals as goal
 

@@ -1,13 +1,12 @@
 -- `copy_within` copies words inside a list, by a loop. The invariant: the first `i` of them, as they stood at the
 -- beginning, are pasted; as none is written over before it is read, the next one is still what it was. The measure is
 -- the number of words left.
-use Prim.Native.Nat.{ℕ, ◌+◌, ◌-◌, ◌≤◌}
+use Prim.Native.Nat.{ℕ, ◌+◌}
 use mathlib.Core.Path.{◌≡◌, refl, ap, ◌∙◌}
 use mathlib.Core.List.{List}
 use native.Mathlib.Omega.{arith}
-use lib.ListN.{length, drop, set, get_or, length-drop, length-set}
+use lib.ListN.{drop, set, get_or, length-drop, length-set}
 use lib.Seq.{paste, paste-zero}
-use borrow.Author.Rules.{rules}
 use Rattle.words.proofs.Lists.{copy_turn, copy_reads, paste_written}
 use Rattle.parts.proofs.copy_within.Goals as goal
 

@@ -1,13 +1,12 @@
 -- `equal_words` compares two lists that are equally long, by a loop. The invariant: they are equal below `i`. The
 -- measure is the number of words left.
-use Prim.Native.Nat.{ℕ, ◌-◌, ◌<◌, ◌≤◌}
+use Prim.Native.Nat.{ℕ}
 use mathlib.Core.List.{List}
-use mathlib.Core.Path.{◌≡◌, refl, ap}
+use mathlib.Core.Path.{refl, ap}
 use native.Mathlib.Omega.{arith}
 use lib.Seq.{ext_get_or}
-use lib.ListN.{length, get_or}
+use lib.ListN.{get_or}
 use borrow.Author.Count.{below_more}
-use borrow.Author.Rules.{rules}
 use Rattle.logic.proofs.Basics.{clash}
 use Rattle.parts.proofs.equal_words.Goals as goal
 

@@ -1,7 +1,6 @@
 -- `same` compares two lists: their lengths, and then their words.
 use mathlib.Core.Path.{ap}
 use lib.ListN.{length}
-use borrow.Author.Rules.{rules}
 use Rattle.logic.proofs.Basics.{clash}
 use Rattle.parts.proofs.same.Goals as goal
 

@@ -1,9 +1,7 @@
 -- `skip` gives where a term ends, by a loop over words. The invariant: as many terms as are counted stand in a row from
 -- `next` on, and end where the term ends. The measure is the number of words behind `next`.
-use Prim.Native.Nat.{◌+◌, ◌-◌, ◌≤◌}
+use Prim.Native.Nat.{◌+◌, ◌-◌}
 use native.Mathlib.Omega.{arith}
-use lib.ListN.{length}
-use borrow.Author.Rules.{rules}
 use Rattle.logic.specs.Term.{Term, size}
 use Rattle.logic.proofs.Words.{size_pos}
 use Rattle.words.specs.Place.{At}

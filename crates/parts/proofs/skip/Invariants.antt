@@ -1,14 +1,10 @@
 -- `skip` gives where a term ends, by a loop over words. The invariant: as many terms as are counted stand in a row from
 -- `next` on, and end where the term ends. The measure is the number of words behind `next`.
 use Prim.Native.Nat.{◌+◌, ◌-◌, ◌≤◌}
-use native.Mathlib.Omega.{arith}
 use lib.ListN.{length}
-use borrow.Author.Rules.{rules}
 use Rattle.logic.specs.Term.{Term, size}
-use Rattle.logic.proofs.Words.{size_pos}
 use Rattle.words.specs.Place.{At}
-use Rattle.words.proofs.Places.{at_end}
-use Rattle.words.proofs.Rows.{TermsLeft, left_start, left_few, left_none, left_next}
+use Rattle.words.proofs.Rows.{TermsLeft}
 use Rattle.parts.proofs.skip.Given as goal
 
 abbrev pub invariant-loop-count : goal.invariant-loop-count

@@ -1,6 +1,5 @@
 -- `lookup` gives a part of one of two lists, by the flag.
 use native.Mathlib.Omega.{arith}
-use borrow.Author.Rules.{rules}
 use Rattle.parts.proofs.lookup.lookup.Goals as goal
 
 pub offset_bounds-held-start : goal.offset_bounds-held-start

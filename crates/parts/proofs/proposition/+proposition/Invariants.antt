@@ -1,12 +1,7 @@
 -- `proposition` tells whether a type's conclusion is none of the six sorts, by recursion on the body of a Pi. The
 -- measure is the number of words from the type's place to the end of the list.
-use Prim.Native.Nat.{ℕ, ◌-◌, ◌<◌}
-use mathlib.Core.Path.{sym, subst, ◌∙◌}
-use native.Mathlib.Omega.{arith}
+use Prim.Native.Nat.{◌-◌}
 use lib.ListN.{length}
-use borrow.Author.Rules.{rules}
-use Rattle.words.specs.Typed.{TypeAt}
-use Rattle.words.proofs.Types.{PiAt, pi_at, no_pi, type_within}
 use Rattle.parts.proofs.proposition.+proposition.Given as goal
 
 abbrev pub decreases-proposition : goal.decreases-proposition
