@@ -5,6 +5,9 @@ pub mod print;
 
 ghost use Rattle.std.specs.Prelude.{◌≤◌, length};
 
+use std::fs::File;
+use std::io::Read;
+
 // Whether a file is there, and how many of its bytes were read.
 #[derive(Drop)]
 struct Loaded {
@@ -12,35 +15,50 @@ struct Loaded {
     bytes: usize,
 }
 
+// Reads into the buffer until it is full, the file ends or a read fails, and gives how many bytes it read.
+fn fill(file: &mut File, buffer: &mut [u8]) -> usize
+    ensures { result ≤ length buffer.new }
+{
+    let mut bytes = 0;
+    while bytes < buffer.len() {
+        let got = file.read(&mut buffer[bytes..]).unwrap_or(0);
+        if got == 0 {
+            return bytes;
+        }
+        bytes += got;
+    }
+    bytes
+}
+
 // Reads a file's bytes, as many as the buffer holds. A file that is read to its end gives 0 at one read more. One that
 // does not, because it is longer or because a read failed, is taken as one that is not there: what was read of it is no
 // shorter file.
-fn load(path: &[u8], buffer: &mut [u8]) -> Loaded
+fn load(rt: &HostRuntime, path: &str, buffer: &mut [u8]) -> Loaded
     ensures { result.bytes ≤ length buffer.new }
 {
-    let fd = os::open_read(path);
-    if fd < 0 {
-        return Loaded {
+    match File::open(rt, path) {
+        Ok(mut file) => {
+            let bytes = fill(&mut file, buffer);
+            let mut more = [0u8; 1];
+            let got = file.read(&mut more).unwrap_or(1);
+            Loaded {
+                there: got == 0,
+                bytes,
+            }
+        }
+        Err(_) => Loaded {
             there: false,
             bytes: 0,
-        };
-    }
-    let bytes = io::read_full(fd, buffer);
-    let mut more = [0u8; 1];
-    let got = libc::read(fd, &mut more);
-    libc::close(fd);
-    Loaded {
-        there: got == 0,
-        bytes,
+        },
     }
 }
 
-fn main() {
+fn main(rt: HostRuntime) {
     let mut list = print::list_bytes();
-    let homes = load(b"homes", &mut list);
+    let homes = load(&rt, "homes", &mut list);
     let n = homes.bytes;
     let mut table = print::table_bytes();
-    let surveys = load(b"surveys", &mut table);
+    let surveys = load(&rt, "surveys", &mut table);
     let m = surveys.bytes;
     let mut out = print::output();
     let end = print::print(
