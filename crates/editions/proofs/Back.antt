@@ -9,7 +9,7 @@ use mathlib.Core.Option.{some}
 use lib.ListN.{length, get_elem?}
 use native.Mathlib.Omega.{arith}
 use Rattle.logic.specs.Result.{ok}
-use Rattle.logic.specs.Term.{Term, atom, var, sign, node, binds, under}
+use Rattle.logic.specs.Term.{Term, atom, var, sign, node, binds}
 use Rattle.logic.specs.Typing.{Has, has_prop, has_type, has_string, has_prin, has_text, has_name, has_var, has_const, has_says, has_pi}
 use Rattle.logic.specs.Typing.{has_lam, has_app, has_sign, has_ret, has_bind}
 use Rattle.logic.proofs.Basics.{clash}
@@ -84,6 +84,8 @@ named_count (means_sign m) (named_signed c) = named_count m c
 named_count (means_node {ns = ns} {o = o} m n) (named c) = named_here (binds o) ns c
 named_count (means_node m n) (named_first c) = named_count m c
 named_count (means_node {ns = ns} {o = o} {l = l} m n) (named_second c) = named_count n (rw (← entered (binds o) l ns) at c)
+named_count means_atom f = elim f [ ]
+named_count (means_var _) f = elim f [ ]
 
 pub named_by_count : (u s : Named) → convert Counts [] 0 u ≡ ok s → NamedByCount s
 named_by_count u s e x d j h = named_count (convert_means Counts u [] 0 e) h

@@ -12,7 +12,7 @@ use Rattle.editions.specs.Convert.{meaning, ScopeOf}
 use Rattle.editions.specs.Binders.{IsBinder, Frees, FreeAt, free, free_first, free_second, BinderAt, binder, binder_signed, binder_first, binder_second}
 use Rattle.editions.specs.declared.Edition.{Edition}
 use Rattle.editions.proofs.Scopes.{enter_scope, no_names, means_cases, frees_apart, frees_once}
-use Rattle.editions.proofs.Means.{Means, means_var, means_sign, means_node, means_size}
+use Rattle.editions.proofs.Means.{Means, means_atom, means_var, means_sign, means_node, means_size}
 
 module _ {e : Edition} where
   -- ---- where a variable can stand
@@ -42,6 +42,8 @@ module _ {e : Edition} where
         | inl c ↦ absurd (frees_apart e (binds o) l x r d c.0)
         | inr w ↦ (w.k', rw (frees_once e (binds o) l x r w.r' d w.frees) w.means, rw (← means_size m) (free_second w.frees_other g))
       ]
+  free_kept means_atom h f = elim f [ ]
+  free_kept (means_sign _) h f = elim f [ ]
 
   pub free_back : {ns : List ℕ} {s t : Named} {k i : ℕ} → Means e ns s t → ScopeOf e ns → FreeAt (other e) k i t →
       (r : ℕ) × (meaning e r ns ≡ some k) × FreeAt e r i s
@@ -53,6 +55,8 @@ module _ {e : Edition} where
         | inl c ↦ absurd (frees_apart (other e) (binds o) _ y k d c.1)
         | inr w ↦ (w.r', rw (frees_once (other e) (binds o) _ y k w.k' d w.frees_other) w.means, rw (means_size m) (free_second w.frees g))
       ]
+  free_back means_atom h f = elim f [ ]
+  free_back (means_sign _) h f = elim f [ ]
 
   pub binder_kept : {ns : List ℕ} {s t : Named} {i j : ℕ} → Means e ns s t → ScopeOf e ns → BinderAt e i j s → BinderAt (other e) i j t
   binder_kept (means_sign m) h (binder_signed b) = binder_signed (binder_kept m (no_names e) b)
@@ -65,6 +69,8 @@ module _ {e : Edition} where
         | inl d ↦ rw (← means_size m) (binder d.1 g)
         | inr w ↦ absurd (frees_apart e (binds o) l x w.r' w.frees c)
       ]
+  binder_kept means_atom h f = elim f [ ]
+  binder_kept (means_var _) h f = elim f [ ]
 
   pub binder_back : {ns : List ℕ} {s t : Named} {i j : ℕ} → Means e ns s t → ScopeOf e ns → BinderAt (other e) i j t → BinderAt e i j s
   binder_back (means_sign m) h (binder_signed b) = binder_signed (binder_back m (no_names e) b)
@@ -77,6 +83,8 @@ module _ {e : Edition} where
         | inl d ↦ rw (means_size m) (binder d.0 g)
         | inr w ↦ absurd (frees_apart (other e) (binds o) _ y w.k' w.frees_other c)
       ]
+  binder_back means_atom h f = elim f [ ]
+  binder_back (means_var _) h f = elim f [ ]
 
   -- ---- a node's variables are those of its children
 
@@ -122,6 +130,7 @@ module _ {e : Edition} where
       frees_apart e (binds o) l x r d (subst (IsBinder e (binds o) l) (sym (free_once f g (omega arith))) c)
   free_unbound (free_second d f) (binder_first h) z = let l = binder_within h in omega arith
   free_unbound (free_second d f) (binder_second h) z = free_unbound f h (omega arith)
+  free_unbound free f z = elim f [ ]
 
   pub one_binder : {m n j k : ℕ} {s : Named} → BinderAt e m j s → BinderAt e n k s → m ≡ n → j ≡ k
   one_binder (binder c f) (binder c' g) z = refl

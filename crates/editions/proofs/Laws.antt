@@ -7,7 +7,7 @@ use lib.Dec.{leb}
 use lib.ListN.{length}
 use borrow.Author.Tests.{le-leb}
 use native.Mathlib.Omega.{arith}
-use Rattle.logic.specs.Limits.{payloads, most_words, most_nesting}
+use Rattle.logic.specs.Limits.{most_words, most_nesting}
 use Rattle.logic.specs.Result.{ok, ◌>>=◌}
 use Rattle.logic.specs.Term.{Term, encode}
 use Rattle.logic.specs.Reading.{Plain, depth}
@@ -16,12 +16,11 @@ use Rattle.logic.specs.Check.{term_of, WordsOf, Checked, check_term}
 use Rattle.logic.proofs.Results.{ok_inj, bound, tested, bind_is, pass}
 use Rattle.logic.proofs.Words.{plain_in_range, encode_injective}
 use Rattle.logic.proofs.Check.{term_of_right, check_term_right}
-use Rattle.editions.specs.Named.{Named, size', encode', counted, erased}
+use Rattle.editions.specs.Named.{Named, encode', counted, erased}
 use Rattle.editions.specs.Edition.{WordsOf', Plain'}
 use Rattle.editions.specs.Convert.{convert, name, fitting, from_named, to_named}
 use Rattle.editions.specs.Binders.{OnlyNames}
 use Rattle.editions.specs.Laws.{Laws}
-use Rattle.editions.specs.declared.Edition.{Edition}
 use Rattle.editions.specs.declared.Edition.TheVariants.{Counts, Names}
 use Rattle.editions.proofs.Words.{encode_size', erased_counted, counted_words, counted_plain, erased_plain, counts_counted}
 use Rattle.editions.proofs.Editions.{edition_term_right}

@@ -40,6 +40,7 @@ signed_up {e} ns (outside {r = r} {k = k} h m z) = absurd (none_means e r k m)
 
 signed_down : {e : Edition} {ns : List ℕ} {p i : ℕ} {q : Named} → BoundIn e ns (sign' p q) (suc i) → BoundIn e [] q i
 signed_down (inside (binder_signed h) z) = inside h (omega arith)
+signed_down (outside f _ _) = elim f [ ]
 
 module _ {e : Edition} {ns : List ℕ} {o : Op} {l : Label (binds o)} {a b : Named} {i : ℕ} where
   first_up : BoundIn e ns a i → BoundIn e ns (node' o l a b) (suc i)
@@ -89,6 +90,7 @@ module _ (e : Edition) (ns : List ℕ) (at x : ℕ) where
 
   unseen : meaning e x ns ≡ none → BoundIn e ns (var' x) 0 → ⊥
   unseen n (outside free m z) = clash (cc)
+  unseen n (inside f _) = elim f [ ]
 
   var_finds : (o : Option ℕ) → meaning e x ns ≡ o → Finds e ns at (var' x) (known unbound at o >>= λ y. ok (var' y))
   var_finds none n = fails at variable (unseen n) (λ r i h l. absurd (omega arith)) (omega arith)
