@@ -73,9 +73,12 @@ module _ (ws : List ℕ) (at a : ℕ) (q : List ℕ) (s : Asking ws at a q) wher
       go : (rest : List Ask) → drop at ws ≡ asks_words rest → AllInRange rest → receipted ks a q ≡ receipted rest a q → Turn ks
       go [] w r e = absurd (omega (arith, length-drop at ws, ap length w))
       go (k ∷ rest) w r e =
-          let o : get_or ws (at + operation_word) 0 ≡ k.operation = sym (get_or-drop at ws operation_word 0) ∙ ap (λ (l : List ℕ). get_or l operation_word 0) w in
-          let v : get_or ws (at + extract_word) 0 ≡ k.extract = sym (get_or-drop at ws extract_word 0) ∙ ap (λ (l : List ℕ). get_or l extract_word 0) w in
-          let u : get_or ws (at + delivery_word) 0 ≡ k.delivery = sym (get_or-drop at ws delivery_word 0) ∙ ap (λ (l : List ℕ). get_or l delivery_word 0) w in
+          let o : get_or ws (at + operation_word) 0 ≡ k.operation =
+          sym (get_or-drop at ws operation_word 0) ∙ ap (λ (l : List ℕ). get_or l operation_word 0) w in
+          let v : get_or ws (at + extract_word) 0 ≡ k.extract =
+          sym (get_or-drop at ws extract_word 0) ∙ ap (λ (l : List ℕ). get_or l extract_word 0) w in
+          let u : get_or ws (at + delivery_word) 0 ≡ k.delivery =
+          sym (get_or-drop at ws delivery_word 0) ∙ ap (λ (l : List ℕ). get_or l delivery_word 0) w in
           let n : get_or ws (at + item_length_word) 0 ≡ length k.proof =
           sym (get_or-drop at ws item_length_word 0) ∙ ap (λ (l : List ℕ). get_or l item_length_word 0) w in
           let behind : drop (at + item_head) ws ≡ k.proof ++ asks_words rest = sym (drop-drop item_head at ws) ∙ ap (drop item_head) w in
@@ -100,7 +103,8 @@ module _ (ws : List ℕ) (at a : ℕ) (q : List ℕ) (s : Asking ws at a q) wher
   asking_whole r h = (turn h r.asked r.before).whole
 
   -- of the desk's receipts, with what the comparison with the one at hand tells
-  module _ (h : at < length ws) (desk : a ≡ 0) (b : Bool) (told : (day : ℕ) (proof : List ℕ) → b ≡ same_words (receipt_words (here day proof)) q) where
+  module _ (h : at < length ws) (desk : a ≡ 0) (b : Bool) (told : (day : ℕ) (proof : List ℕ) →
+      b ≡ same_words (receipt_words (here day proof)) q) where
     told_here : {ks : List Ask} (t : Turn ks) → receipted ks a q ≡ cond b true (receipted t.rest a q)
     told_here t =
         t.same ∙ ap (λ (x : Bool). cond x true (receipted t.rest a q)) (desk_says a q (here t.day t.proof) desk ∙ sym (told t.day t.proof))
