@@ -13,7 +13,7 @@ use borrow.Author.Tests.{le-leb, leb-true, ltb-true, ltb-false, eq-eqb, ne_eqb, 
 use Rattle.logic.specs.Result.{Result, ok, refused, known, require, ◌>>=◌, ◌>>◌}
 use Rattle.logic.proofs.Basics.{clash}
 use Rattle.logic.proofs.Results.{both_true, not_ok}
-use Rattle.decimal.specs.Decimal.{zero_digit, digits, decimal, number, number_bytes, feed}
+use Rattle.decimal.specs.Decimal.{zero_digit, digits, number, number_bytes, feed}
 use Rattle.decimal.proofs.Digits.{power, digits_one, digits_more, digits_place_more, number_length}
 use Rattle.logic.specs.Refusals.{out_of_form}
 use Rattle.number_file.specs.NumberFile.{largest, is_digit, digit, bytes_ended, numbers, starts_with, file, fields, Small, last_end, IsFile}

@@ -10,7 +10,7 @@ use Rattle.logic.specs.Reduce.{Reduces, beta, bind_ret, bind_unused, step_functi
 use Rattle.reduction.specs.Steps.{step_place, Irreducible, Position, at_root, at_function, at_lam, at_ret, at_bound, at_rest, Settled}
 
 -- a position is a word index, as Reading counts them
-pub position_stands : {i : ℕ} {s t : Term} → Position s i t → (d : ℕ) × SubtermAt s i d t
+pub position_stands : {s t : Term} {i : ℕ} → Position s i t → (d : ℕ) × SubtermAt s i d t
 position_stands at_root = (1, root)
 position_stands (at_function r) = let (d, st) = position_stands r in (suc d, in_first st)
 position_stands (at_lam r) = let (d, st) = position_stands r in (suc d, in_second st)
@@ -19,7 +19,7 @@ position_stands (at_bound r) = let (d, st) = position_stands r in (suc d, in_fir
 position_stands (at_rest r) = let (d, st) = position_stands r in (suc d, in_second st)
 
 -- a step at such a position is one of the whole, at its place
-pub step_at : {i : ℕ} {s t v : Term} → Position s i t → (p : Reduces s v) → (u : Term) × (q : Reduces t u) × (step_place q ≡ i + step_place p)
+pub step_at : {s t v : Term} {i : ℕ} → Position s i t → (p : Reduces s v) → (u : Term) × (q : Reduces t u) × (step_place q ≡ i + step_place p)
 unfolding step_place
 step_at {v} at_root p = (v, p, omega arith)
 step_at (at_function {e} r) p = let (u, q, h) = step_at r p in (App u e, step_function q, omega arith)
