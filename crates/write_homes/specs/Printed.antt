@@ -1,6 +1,6 @@
 -- What the program prints: from the bytes of the two files, or their absence, to bytes. Sentences in quotation marks
 -- are document 02's, slip 3.
-use Rattle.std.specs.Prelude.{ℕ, ◌+◌, ◌*◌, Bool, cond, List, ◌++◌, length}
+use Rattle.std.specs.Prelude.{ℕ, ◌+◌, ◌*◌, Bool, cond, List, ◌++◌}
 use Rattle.std.proofs.Math.Option.{Option, some, none}
 use Rattle.logic.specs.Refusals.{out_of_form}
 use Rattle.logic.specs.Result.{Result, ok, refused, known, ◌>>=◌}
