@@ -1,10 +1,10 @@
 -- The items of a batch's list by their places: what stands at one, and how many there are.
 use Prim.Native.Nat.{ℕ, ◌+◌, ◌-◌, ◌≤◌, ◌<◌}
 use native.Mathlib.Omega.{arith}
-use mathlib.Core.Path.{◌≡◌, refl, sym, ap, ap₂, ◌∙◌, subst}
+use mathlib.Core.Path.{◌≡◌, refl, sym, ap, ap₂, ◌∙◌}
 use mathlib.Core.Bool.{Bool, true, false, cond}
 use mathlib.Core.List.{List, [], ◌∷◌, ◌++◌}
-use mathlib.Core.Option.{Option, some, none}
+use mathlib.Core.Option.{some, none}
 use lib.Dec.{leb}
 use lib.ListN.{length, take, drop, get_or, length-append, length-drop, drop_of_length-le}
 use lib.Seq.{drop-drop, get_or-drop, take_at, drop_at, length-take-le}
@@ -92,7 +92,8 @@ module _ (day : ℕ) (ws : List ℕ) (at : ℕ) (r : Item) (e : item_answer r �
   pub whole_there : (end : ℕ) → r ≡ Whole end → WholeAt day ws at end
   whole_there end q = go (next_item day (drop at ws)) refl (sym (ap item_answer q) ∙ e)
     where
-      found : (k : Ask) (rest : List ℕ) → next_item day (drop at ws) ≡ whole_item k rest → end ≡ at + item_head + length k.proof → WholeAt day ws at end
+      found : (k : Ask) (rest : List ℕ) → next_item day (drop at ws) ≡ whole_item k rest → end ≡ at + item_head + length k.proof →
+          WholeAt day ws at end
       found k rest f n =
           let (w, d) = (next_item_right day (drop at ws) k rest).0 f in
           let l : length (drop at ws) ≡ item_head + length k.proof + length rest = ap length w ∙ simp length-append (omega arith) in
