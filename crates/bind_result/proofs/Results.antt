@@ -14,7 +14,7 @@ use borrow.Author.Tests.{eq-eqb, ne_eqb}
 use Rattle.logic.specs.Limits.{payloads, most_type_words}
 use Rattle.logic.specs.Refusals.{condition_fails, variable_escapes}
 use Rattle.logic.specs.Result.{Result, refused, ◌>>◌, require}
-use Rattle.logic.specs.Term.{Op, saysO, piO, lamO, appO, retO, bindO, Term, atom, var, sign, node, binds, under, KindP, KindT, Says, word}
+use Rattle.logic.specs.Term.{Op, saysO, piO, lamO, appO, retO, bindO, Term, atom, var, sign, node, binds, under, KindP, KindT, Says}
 use Rattle.logic.specs.Term.{op_word, encode, size, first_word}
 use Rattle.logic.specs.Move.{shift, raise, lower, occurs}
 use Rattle.logic.specs.Reading.{branch, word_shape, Plain, PlainType, InRange}
@@ -123,7 +123,8 @@ module _ (ws : List ℕ) (used at m end : ℕ) (p q B : Term) (j : Binds ws used
   -- the words before the principal's in the entry
   pub total_is : get_or ws (length ws - used) 0 ≡ entry_head + (1 + size p + size q)
   total_is =
-      ap (λ (k : ℕ). get_or ws k 0) (sym (add-zero (length ws - used))) ∙ sym (get_or-drop (length ws - used) ws 0 0) ∙ ap (λ (l : List ℕ). get_or l 0 0) j.kept
+      ap (λ (k : ℕ). get_or ws k 0) (sym (add-zero (length ws - used))) ∙ sym (get_or-drop (length ws - used) ws 0 0) ∙ ap
+      (λ (l : List ℕ). get_or l 0 0) j.kept
 
   pub kept_size : get_or ws (length ws - used + 2) 0 ≡ size q
   kept_size = sym (get_or-drop (length ws - used) ws 2 0) ∙ ap (λ (l : List ℕ). get_or l 2 0) j.kept
@@ -154,7 +155,8 @@ module _ (ws : List ℕ) (used at m end : ℕ) (p q B : Term) (j : Binds ws used
     pub bind_short : m ≤ said → TypeFormed (bind_type at p B) end ws ws (Refused condition_fails at)
     bind_short l = unsaid λ s. let z = said_size s in let k = size_pos s.right in omega arith
 
-    kept_part : take (length ws - used + entry_head + said - (length ws - used + entry_head)) (drop (length ws - used + entry_head) ws) ≡ op_word saysO ∷ encode
+    kept_part : take (length ws - used + entry_head + said - (length ws - used + entry_head)) (drop (length ws - used + entry_head) ws) ≡ op_word
+        saysO ∷ encode
         (raise 1 p)
     kept_part =
         let h : ℕ = length ws - used in

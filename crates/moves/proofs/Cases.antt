@@ -27,7 +27,8 @@ module _ (P : Term → Type 0) {ws : List ℕ} {at k : ℕ} (found : (t : Term) 
   atom_case e f = cases (λ a q h. f a h) (λ n q h. absurd (omega arith)) (λ n u q h. absurd (omega arith)) (λ o a b q h. absurd (omega (arith, op_low o)))
 
   pub variable_case : k ≡ kind_variable → ((n : ℕ) → At ws at (var n) → P (var n)) → (t : Term) → At ws at t → P t
-  variable_case e f = cases (λ a q h. absurd (omega arith)) (λ n q h. f n h) (λ n u q h. absurd (omega arith)) (λ o a b q h. absurd (omega (arith, op_low o)))
+  variable_case e f = cases (λ a q h. absurd (omega arith)) (λ n q h. f n h) (λ n u q h. absurd (omega arith))
+      (λ o a b q h. absurd (omega (arith, op_low o)))
 
   pub sign_case : k ≡ kind_sign → ((n : ℕ) (q : Term) → At ws at (sign n q) → P (sign n q)) → (t : Term) → At ws at t → P t
   sign_case e f = cases (λ a q h. absurd (omega arith)) (λ n q h. absurd (omega arith)) (λ n u q h. f n u h) (λ o a b q h. absurd (omega (arith, op_low o)))

@@ -181,7 +181,8 @@ module _ (proof ws : List ℕ) (at next m end : ℕ) (o : Op) (a B : Term) (j : 
         ap (λ (i : ℕ). take i (drop (at + 1) proof)) i ∙ at_part j.here in
         let type_words : take m (drop 0 ws) ≡ encode B = ap (λ (i : ℕ). take i (drop 0 ws)) k ∙ type_part j.type in
         let ea' : aside ≡ written_at ws most_type_words (encode B) = ea ∙ ap (written_at ws most_type_words) type_words in
-        let em' : mid ≡ written_at (set aside 0 (op_word o)) 1 (encode a) = em ∙ ap₂ (λ (v : ℕ) (l : List ℕ). written_at (set aside 0 v) 1 l) h first_words in
+        let em' : mid ≡ written_at (set aside 0 (op_word o)) 1 (encode a) = em ∙ ap₂ (λ (v : ℕ) (l : List ℕ). written_at (set aside 0 v) 1 l) h
+        first_words in
         let ef : mid ≡ written_at aside 0 (op_word o ∷ encode a) = written_cons aside mid 0 (op_word o) (encode a) (omega arith) em' in
         let back : take m (drop most_type_words mid) ≡ encode B = ap (take m)
         (written_kept aside mid (op_word o ∷ encode a) 0 most_type_words (omega arith) ef (omega arith))

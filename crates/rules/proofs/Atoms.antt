@@ -132,7 +132,8 @@ constant_unknown {sig} {table} {Σ} ws n at l d =
     (ap (λ (o : Option Term). known unknown_constant at o >>= measured at) (no_element Σ n (omega arith)))
 
 -- a constant's word has a constant's type
-pub constant_typed : {ws new : List ℕ} {r : Derivation} {n : ℕ} (Σ : List Term) (at w : ℕ) (a : Atom) → PlainAtom a → w ≡ atom_word a → tag_of w ≡ tag_constant
+pub constant_typed : {ws new : List ℕ} {r : Derivation} {n : ℕ} (Σ : List Term) (at w : ℕ) (a : Atom) → PlainAtom a → w ≡ atom_word a → tag_of w
+    ≡ tag_constant
     → n ≡ payload_of w → TypeFormed (atom_type Σ at (constA n)) (at + 1) ws new r → TypeFormed (atom_type Σ at a) (at + 1) ws new r
 constant_typed {ws} {new} {r} Σ at w a p e t q f =
     subst (λ (x : Atom). TypeFormed (atom_type Σ at x) (at + 1) ws new r) (ap constA q ∙ sym (constant_word w a p e t)) f
@@ -155,7 +156,8 @@ module _ {sig table : List ℕ} {n : ℕ} {Σ : List Term} (ws : List ℕ) (at :
   constant_is : atom_type Σ at (constA n) ≡ measured at c.type
   constant_is = ap (λ (o : Option Term). known unknown_constant at o >>= measured at) c.entry
 
-  pub constant_long : most_type_words < get_or sig (get_or table n 0 - 1) 0 → TypeFormed (atom_type Σ at (constA n)) (at + 1) ws ws (Refused type_too_long at)
+  pub constant_long : most_type_words < get_or sig (get_or table n 0 - 1) 0 → TypeFormed (atom_type Σ at (constA n)) (at + 1) ws ws
+      (Refused type_too_long at)
   constant_long l =
       let w : get_or sig (get_or table n 0 - 1) 0 ≡ size c.type = c.words in
       formed_refused (atom_type Σ at (constA n)) type_too_long at (at + 1) ws (constant_is ∙ measured_long at c.type (omega arith))

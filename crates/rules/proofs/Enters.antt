@@ -102,7 +102,8 @@ unfolding encode
 says_encode p q = refl
 
 -- the type's words were copied behind the entry's head
-module _ {ws mid : List ℕ} {n : ℕ} {p q : Term} (used : ℕ) (h : TypeAt ws 0 (Says p q)) (s : n ≡ size (Says p q)) (room : used + (entry_head + n) ≤ length ws)
+module _ {ws mid : List ℕ} {n : ℕ} {p q : Term} (used : ℕ) (h : TypeAt ws 0 (Says p q)) (s : n ≡ size (Says p q))
+    (room : used + (entry_head + n) ≤ length ws)
     (e : mid ≡ written_at ws (length ws - (used + (entry_head + n)) + entry_head) (take n ws)) where
   copied : take n ws ≡ encode (Says p q)
   copied = ap (λ (i : ℕ). take i ws) s ∙ type_part h
@@ -304,7 +305,8 @@ module _ {proof ws : List ℕ} {at next n : ℕ} {o : Op} {a A : Term} (used : �
       → Answers b → Entering o at a A n used ws ws (Refused condition_fails)
   binder_fails {k} {b} t e i d f = fails (binder_rule o at a A n _ j.head t (kind_found k e ∙ i)) used ws (ap (condition at) (sym (domain_is b f) ∙ d))
 
-  pub plain_passes : {k : ℕ} {b : Bool} → (tag_of (get_or proof at 0) ≡ tag_app → ⊥) → k ≡ shape_kind (word_shape (get_or proof at 0)) → (k ≡ kind_binder → ⊥)
+  pub plain_passes : {k : ℕ} {b : Bool} → (tag_of (get_or proof at 0) ≡ tag_app → ⊥) → k ≡ shape_kind (word_shape (get_or proof at 0))
+      → (k ≡ kind_binder → ⊥)
       → b ≡ true
       → b ≡ same A N → Entering o at a A n used ws ws (Fits 0 used)
   plain_passes {k} t e q d f = passes_none (plain_rule o at a A n _ j.head t (λ i. q (sym (kind_found k e) ∙ i))) (ap (condition at) (sym f ∙ d))

@@ -93,7 +93,8 @@ entry_at proof ws floor kept Γ h l b =
     let e = nearest proof x Γ (omega arith) b in
     let i : entry_head ≤ get_or x 0 0 = e.head in
     let j : get_or x 0 0 ≤ length x = e.inside in
-    let a : get_or x 0 0 ≡ get_or ws (length ws - kept) 0 = scope_word floor kept 0 ws (omega arith) ∙ ap (λ (i : ℕ). get_or ws i 0) (add-zero (length ws - kept)) in
+    let a : get_or x 0 0 ≡ get_or ws (length ws - kept) 0 = scope_word floor kept 0 ws (omega arith) ∙ ap (λ (i : ℕ). get_or ws i 0)
+    (add-zero (length ws - kept)) in
     let c : get_or x 1 0 ≡ get_or ws (length ws - kept + 1) 0 = scope_word floor kept 1 ws (omega arith) in
     let d : get_or x 2 0 ≡ get_or ws (length ws - kept + 2) 0 = scope_word floor kept 2 ws (omega arith) in
     rw (a, c, d) at e

@@ -1,5 +1,5 @@
 -- Document 02, slip 8, by examples on words that compute; words are written as document 01 writes them.
-use Rattle.std.specs.Prelude.{ℕ, ◌≡◌, List, [], ◌∷◌, ◌++◌, replicate}
+use Rattle.std.specs.Prelude.{ℕ, ◌≡◌, [], ◌∷◌, ◌++◌, replicate}
 use Rattle.logic.specs.Result.{ok, refused}
 use Rattle.logic.specs.Term.{word}
 use Rattle.uses.specs.Uses.{uses_call}
