@@ -3,8 +3,9 @@
 
 usage: python3 tools/respell.py [--list]      at the top, once, after port.py
 Names that are defined in specs/ and in the lemma files of proofs/ are turned, wherever they stand in .rt and .antt
-files and, between backquotes, in README.md and docs/. Names that the libraries define too are left, and each pair of
-names that would fall together stops it before anything is written.
+files and, between backquotes, in README.md and docs/. Names that the libraries define too are left. A definition may
+get the spelling of a function of src/, since the two are told apart; such pairs are printed. Two names of antt that
+would fall together stop it before anything is written.
 """
 
 import glob
@@ -66,7 +67,12 @@ def main():
     for path in texts:
         lines = [re.sub(r"Rattle\.[\w.+']*|" + ("--.*" if path.endswith(".antt") else "//.*"), "", l) for l in read(path).split("\n")]
         tokens = {t for l in lines for t in TOKEN.findall(l)}
-        together += [(n, t, path) for n, t in turned.items() if t in tokens and n in tokens]
+        for n, t in turned.items():
+            if t in tokens and n in tokens:
+                if path.endswith(".rt"):
+                    print("a function has this name too:", n, t, path)
+                else:
+                    together.append((n, t, path))
     together += sorted((n, t) for n, t in turned.items() if t in own)
     twice = {}
     for n, t in turned.items():
@@ -77,7 +83,7 @@ def main():
     if "--list" in sys.argv:
         print(len(turned), "names")
         return 0
-    if together and "--all" not in sys.argv:
+    if together:
         return 1
     for path in texts:
         old = read(path)
