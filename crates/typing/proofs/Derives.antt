@@ -12,12 +12,12 @@ use Rattle.logic.specs.Limits.{most_words, most_type_words}
 use Rattle.logic.specs.Refusals.{unbound_variable}
 use Rattle.logic.specs.Result.{Result, ok, refused, ◌>>=◌, ◌>>◌, known}
 use Rattle.logic.specs.Kind.{kind_atom, kind_variable, kind_sign}
-use Rattle.logic.specs.Term.{Atom, Op, saysO, piO, lamO, appO, retO, bindO, Term, atom, var, sign, node, P, Says, Pi, payload_of, atom_word, op_word}
+use Rattle.logic.specs.Term.{Atom, Op, saysO, piO, lamO, appO, retO, bindO, Term, atom, var, sign, node, Says, Pi, payload_of, atom_word, op_word}
 use Rattle.logic.specs.Term.{encode, size}
 use Rattle.logic.specs.Move.{raise, fill}
 use Rattle.logic.specs.Typing.{Has, of_prop}
 use Rattle.logic.specs.Scope.{Context, no_binder, binder}
-use Rattle.logic.specs.Infer.{infer, measured, same, domain, Parts, parts}
+use Rattle.logic.specs.Infer.{infer, measured, domain, Parts, parts}
 use Rattle.logic.specs.Reading.{PlainAtom, Plain, PlainType, depth}
 use Rattle.logic.proofs.Results.{not_ok, ok_inj, followed, pass, require_ok}
 use Rattle.logic.proofs.Stopped.{not_refused, stopped_then}
@@ -245,7 +245,8 @@ module _ (Σ Γ : List Term) (at : ℕ) (o : Op) (a b : Term) where
 
     module _ (passed : ready o at A ≡ ok tt) (next : ℕ) (next_is : next ≡ at + 1 + size a) where
       second_refused : (m p : ℕ) → infer Σ (within o a A Γ) next b ≡ refused m p → infer Σ Γ at (node o a b) ≡ refused m p
-      second_refused m p e = passed_test passed ∙ ap (λ x. x >>= λ B. node_type o at a b A B) (ap (λ (i : ℕ). infer Σ (within o a A Γ) i b) (sym next_is) ∙ e)
+      second_refused m p e = passed_test passed ∙ ap (λ x. x >>= λ B. node_type o at a b A B) (ap (λ (i : ℕ). infer Σ (within o a A Γ) i b)
+          (sym next_is) ∙ e)
 
       node_formed : (B : Term) → infer Σ (within o a A Γ) next b ≡ ok B → infer Σ Γ at (node o a b) ≡ node_type o at a b A B
       node_formed B e = passed_test passed ∙ ap (λ x. x >>= λ B. node_type o at a b A B) (ap (λ (i : ℕ). infer Σ (within o a A Γ) i b) (sym next_is) ∙ e)
@@ -482,7 +483,8 @@ module _ {sig table proof ws : List ℕ} {floor used at left : ℕ} {Σ Γ : Lis
 module _ {sig table proof ws : List ℕ} {floor used at left : ℕ} {Σ Γ : List Term} (k : ℕ) (new : List ℕ) (r : Derivation) (same : length new ≡ length ws)
     (room : used + front_words ≤ length ws) where
   pub atom_derived : (t : Term) → k ≡ kind_atom → k ≡ term_kind t → SubjectAt sig table proof ws floor used at left Σ Γ t
-      → ((Σ : List Term) → (a : Atom) → Declared sig table Σ → get_or proof at 0 ≡ atom_word a → PlainAtom a → TypeFormed (atom_type Σ at a) (at + 1) ws new r)
+      → ((Σ : List Term) → (a : Atom) → Declared sig table Σ → get_or proof at 0 ≡ atom_word a → PlainAtom a → TypeFormed (atom_type Σ at a) (at + 1)
+      ws new r)
       → Derived (infer Σ Γ at t) (at + size t) used ws new r
   unfolding infer size Plain
   atom_derived (atom a) z h R f = from_front _ _ used ws new r same room (f Σ a R.declared (at_head R.here) R.here.plain)
