@@ -57,7 +57,8 @@ module _ (Σ : List Term) (sig : List ℕ) (at : ℕ) (l : at < length sig) wher
   at_word = ap (constant_at Σ) (drop_one sig at l)
 
   pub no_length_word : n < 1 → false ≡ constant_at Σ (drop at sig)
-  no_length_word h = sym (at_word ∙ ap (λ (b : Bool). b && leb n most_constant_words && leb n (length ws) && succeeded (constant Σ (take n ws))) (lt-leb 1 n h))
+  no_length_word h = sym (at_word ∙ ap (λ (b : Bool). b && leb n most_constant_words && leb n (length ws) && succeeded (constant Σ (take n ws)))
+      (lt-leb 1 n h))
 
   pub too_many_words : most_constant_words < n → false ≡ constant_at Σ (drop at sig)
   too_many_words h =

@@ -72,7 +72,8 @@ module _ (Σ : List Term) where
 
     pub no_receipt : (i : ℕ) → i < n → received i ≡ false → false ≡ operations_test Σ n
     unfolding operations
-    no_receipt i l e = refused_operations (spoilt n i l (ap (λ (b : Bool). operations Σ i && permitted i && b) e ∙ and-false (operations Σ i && permitted i)))
+    no_receipt i l e = refused_operations
+        (spoilt n i l (ap (λ (b : Bool). operations Σ i && permitted i && b) e ∙ and-false (operations Σ i && permitted i)))
 
     pub all_operations : 1 ≤ n → n ≤ most_operations → operations Σ n ≡ true → true ≡ operations_test Σ n
     all_operations l h e = sym (true_both (true_both (le-leb 1 n l) (le-leb n most_operations h)) e)
