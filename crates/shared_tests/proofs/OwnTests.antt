@@ -1,22 +1,20 @@
 -- A call's own tests, behind those that calls share; and what tests 6 to 12 tell.
 use Prim.Native.Nat.{ℕ, ◌≤◌}
 use native.Mathlib.Omega.{arith}
-use mathlib.Core.Path.{◌≡◌, refl, sym, ap, ap₂, subst, ◌∙◌, fun_ext}
+use mathlib.Core.Path.{◌≡◌, refl, sym, ap, subst, ◌∙◌, fun_ext}
 use mathlib.Core.List.{List, []}
 use lib.Dec.{leb}
 use lib.ListN.{length, take, length-take}
-use lib.Seq.{take_at}
 use Rattle.logic.specs.Limits.{least_workspace, most_words, most_nesting}
 use Rattle.logic.specs.Refusals.{workspace_short, bad_number}
 use Rattle.logic.specs.Result.{Result, ok, refused, ◌>>=◌, ◌>>◌, require}
-use Rattle.logic.specs.Term.{Term, encode, size}
+use Rattle.logic.specs.Term.{Term, size}
 use Rattle.logic.specs.SignatureList.{signature, operations_test}
 use Rattle.logic.specs.Infer.{infer}
 use Rattle.logic.specs.Check.{term_of, check_term, Checked}
 use Rattle.logic.proofs.Basics.{clash}
 use Rattle.logic.proofs.Results.{ok_inj, bound, bind_is}
 use Rattle.logic.proofs.Stopped.{not_mapped, stop}
-use Rattle.logic.proofs.Words.{encode_size}
 use Rattle.logic.proofs.Check.{term_of_right}
 use Rattle.words.specs.Place.{Is}
 use Rattle.words.specs.Typed.{TypeAt}
