@@ -58,7 +58,10 @@ def main():
     texts = sorted(glob.glob("crates/*/specs/**/*.antt", recursive=True) + glob.glob("crates/*/proofs/**/*.antt", recursive=True) + glob.glob("crates/*/src/**/*.rt", recursive=True))
     own = own_names(definitions)
     theirs = library_names(texts, crates)
-    turned = {n: new_spelling(n) for n in own if new_spelling(n) != n and "◌" not in n}
+    # of an operator, as ◌has-type◌, its parts are turned where it is used
+    operators = {n for n in own if "◌" in n and re.search(r"\w-\w", n)}
+    own |= {part for n in operators for part in n.split("◌") if part}
+    turned = {n: new_spelling(n) for n in own if new_spelling(n) != n and ("◌" not in n or n in operators)}
     kept = sorted(n for n in turned if n in theirs)
     for n in kept:
         print(f"a library's name too, left as it is: {n}")
