@@ -274,6 +274,23 @@ pub fn from_named_line(example: &[u8], term: &[u32], output: &mut [u32]) {
     print_conversion(example, b"from_named", conversion, output);
 }
 
+// The output behind the answer, and no more than the answer where the load is refused.
+pub fn load_line(example: &[u8], seed: u32, count: u32, output: &mut [u32]) {
+    let drawn = load::load(seed, count, output);
+    match drawn {
+        words::counted::Counted::Count(written) => {
+            print_answer(example, b"load", 0, 0);
+            io::write_all(1, b" words ");
+            io::print_decimal(1, written as u64);
+            print_words(output);
+        }
+        words::counted::Counted::Refused { number, place } => {
+            print_answer(example, b"load", number, place)
+        }
+    }
+    io::write_all(1, b"\n");
+}
+
 // How many variables of a term stand free, from a number on.
 pub fn uses_line(example: &[u8], term: &[u32], from: u32) {
     let counted = uses(term, from);
