@@ -14,7 +14,7 @@ use Rattle.logic.specs.Refusals.{bad_number, day_before_latest, another_proposit
 use Rattle.logic.specs.Result.{Result, ok, refused, ◌>>=◌, ◌>>◌, require}
 use Rattle.logic.specs.Term.{Term, encode, size}
 use Rattle.logic.specs.Infer.{same}
-use Rattle.logic.specs.Check.{check_term, Checked}
+use Rattle.logic.specs.Check.{check_term}
 use Rattle.logic.proofs.Results.{both_true, true_both}
 use Rattle.logic.proofs.Words.{encode_size}
 use Rattle.logic.specs.Reading.{InRange}
