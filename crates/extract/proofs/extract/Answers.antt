@@ -1,0 +1,30 @@
+-- Three ways out: the form is broken, the request is refused, or it is granted and the homes are written.
+use mathlib.Core.Path.{sym, ◌∙◌}
+use Rattle.register.specs.Records.{ask_of}
+use Rattle.shared_tests.specs.Shared.{lent_of}
+use Rattle.extract.proofs.Extracts.{extract_not_formed, extract_not_granted, extract_granted}
+use Rattle.extract.proofs.extract.Goals as goal
+
+pub returns-then-not-fine : goal.returns-then-not-fine
+returns-then-not-fine c =
+    let a = c.args in
+    extract_not_formed (lent_of c.args.sig.now c.args.n c.args.ws.now) a.register.now (ask_of c.args.operation c.args.extract c.args.delivery
+    c.args.day c.args.proof.now) a.homes.now a.surveys.now a.out.now
+    (sym c.well_formed-fine.ensures ∙ c.if-not-fine.true)
+
+pub returns-in_default : goal.returns-in_default
+returns-in_default c =
+    let a = c.args in
+    extract_not_granted (lent_of c.args.sig.now c.args.n c.args.ws.now) a.register.now (ask_of c.args.operation c.args.extract c.args.delivery
+    c.args.day c.args.proof.now) a.homes.now a.surveys.now a.out.now
+    (sym c.well_formed-fine.ensures ∙ c.if-not-fine.false) _ c.request-answer.result c.request-answer.ensures _ _ c.in_default.is
+
+pub join-requires : goal.join-requires
+join-requires c = (sym c.well_formed-fine.ensures ∙ c.if-not-fine.false)
+
+pub returns : goal.returns
+returns c =
+    let a = c.args in
+    extract_granted (lent_of c.args.sig.now c.args.n c.args.ws.now) a.register.now (ask_of c.args.operation c.args.extract c.args.delivery c.args.day
+    c.args.proof.now) a.homes.now a.surveys.now a.out.now
+    (sym c.well_formed-fine.ensures ∙ c.if-not-fine.false) _ c.request-answer.result c.request-answer.ensures _ c.in-Passed.is c.join.ensures
