@@ -26,7 +26,7 @@ use Rattle.signs.specs.declared.Missed.{Missed}
 use Rattle.signs.specs.declared.Missed.TheVariants.{Nowhere, At}
 use Rattle.write_records.proofs.Adds.{statement_length, room_for}
 use Rattle.records.proofs.Items.{records_there}
-use Rattle.register.specs.Records.{Record, Statement, Content, used, latest, register_content, statements, holding, states, words_of, appended}
+use Rattle.register.specs.Records.{Record, Statement, Content, used, latest, statements, holding, states, words_of, appended}
 use Rattle.register.specs.Records.{statement_extra, say_kind}
 use Rattle.register.specs.Calls.{Lent, signs_held, view, outline_of, statement_test, say_entry, stated_own, say_own, say_call, after_say}
 use Rattle.register.specs.Succeeds.{Adds, added_now, Sayable}
