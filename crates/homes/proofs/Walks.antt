@@ -102,7 +102,8 @@ module _ {hs t old out : List ℕ} {i j : ℕ} (w : Walking hs t old out i j) wh
       ∙ ap₂ walked (sym hd) (drop-drop 2 j t) in
       record { sofar = w.sofar; count = w.count; same = w.same ∙ ap (λ (m : List ℕ). w.sofar ++ m) s; done = w.done }
 
-  pub walking_write : (c : ℕ) → i < length hs → 2 * length hs ≤ length old → home_passed (get_or hs i 0) (drop j t) ≡ false → c ≡ here (get_or hs i 0) (drop j t) →
+  pub walking_write : (c : ℕ) → i < length hs → 2 * length hs ≤ length old → home_passed (get_or hs i 0) (drop j t) ≡ false →
+      c ≡ here (get_or hs i 0) (drop j t) →
       Walking hs t old (set (set out (2 * i) (get_or hs i 0)) (2 * i + 1) c) (i + 1) j
   walking_write c h r e q =
       let x : ℕ = get_or hs i 0 in

@@ -1,5 +1,7 @@
 -- The generator's numbers: products fit 64 bits, draws are payloads.
-use Rattle.std.proofs.Common.{◌≡◌, ℕ, ◌+◌, ◌*◌, ◌^◌, ◌<◌, Bool, true, false, cond, eqb, ◌≢◌, sym, ap, lt_of_le_of_lt, le_of_lt, mod-lt, mul-le-mul_left, mul-lt-mul_of_pos_right, arith, pow_pos, pow-add, eq-eqb, ne_eqb}
+use Rattle.std.proofs.Common.{◌≡◌, ℕ, ◌+◌, ◌*◌, ◌^◌, ◌<◌, Bool, true, false, cond, eqb, ◌≢◌, sym, ap, lt_of_le_of_lt}
+use Rattle.std.proofs.Common.{le_of_lt, mod-lt, mul-le-mul_left, mul-lt-mul_of_pos_right, arith, pow_pos, pow-add}
+use Rattle.std.proofs.Common.{eq-eqb, ne_eqb}
 use mathlib.Core.Path.{subst⁻¹}
 use Rattle.logic.specs.Limits.{payloads}
 use Rattle.load.specs.Load.{drawn_at, principal_from}

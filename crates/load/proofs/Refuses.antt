@@ -1,5 +1,7 @@
 -- The demands of a load: the generator and the tests are those of the relations.
-use Rattle.std.proofs.Common.{◌≡◌, ℕ, zero, suc, ◌+◌, ◌*◌, ◌/◌, Bool, true, false, cond, ◌&&◌, eqb, leb, ◌⊎◌, ◌↔◌, List, ◌++◌, length, sym, refl, ap, ◌∙◌, subst, ap₂, inl, inr, arith, eqb-true, leb-false, leb-true}
+use Rattle.std.proofs.Common.{◌≡◌, ℕ, zero, suc, ◌+◌, ◌*◌, ◌/◌, Bool, true, false, cond, ◌&&◌, eqb, leb, ◌⊎◌, ◌↔◌, List}
+use Rattle.std.proofs.Common.{◌++◌, length, sym, refl, ap, ◌∙◌, subst, ap₂, inl, inr, arith, eqb-true, leb-false}
+use Rattle.std.proofs.Common.{leb-true}
 use borrow.Author.Tests.{eqb-false}
 use Rattle.logic.specs.Refusals.{load_size, output_short}
 use Rattle.logic.specs.Result.{Result, ok, refused, ◌>>◌, require, Answers}

@@ -1,5 +1,6 @@
 -- What the code writes and answers, by the definitions.
-use Rattle.std.proofs.Common.{◌≡◌, ℕ, zero, suc, ◌+◌, ◌*◌, ◌<◌, ◌≤◌, ◌&&◌, leb, ◌⊎◌, List, ◌∷◌, ◌++◌, length, take, sym, refl, ap, ◌∙◌, ap₂, inl, inr, arith, le-leb}
+use Rattle.std.proofs.Common.{◌≡◌, ℕ, zero, suc, ◌+◌, ◌*◌, ◌<◌, ◌≤◌, ◌&&◌, leb, ◌⊎◌, List, ◌∷◌, ◌++◌, length, take, sym}
+use Rattle.std.proofs.Common.{refl, ap, ◌∙◌, ap₂, inl, inr, arith, le-leb}
 use borrow.Author.Tests.{lt-leb}
 use Rattle.logic.specs.Refusals.{load_size, output_short}
 use Rattle.logic.specs.Result.{ok, refused}

@@ -18,7 +18,8 @@ pub record Putting (ws old : List ℕ) (to : ℕ) (out : List ℕ) (end this oth
 pub putting_start : (ws old : List ℕ) (to : ℕ) → Putting ws old to old to comma feed 0
 putting_start ws old to = record { so_far = []; done = put_none old to; same = refl }
 
-next_field : (ws : List ℕ) (this other i : ℕ) → i < length ws → fields this other (drop i ws) ≡ number (get_or ws i 0) this ++ fields other this (drop (i + 1) ws)
+next_field : (ws : List ℕ) (this other i : ℕ) → i < length ws →
+    fields this other (drop i ws) ≡ number (get_or ws i 0) this ++ fields other this (drop (i + 1) ws)
 unfolding fields
 next_field ws this other i h = ap (fields this other) (drop_one ws i h)
 
