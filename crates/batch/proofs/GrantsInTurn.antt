@@ -1,12 +1,11 @@
 -- The grants of a batch one after another, and what a batch leaves.
-use Prim.Native.Nat.{ℕ, ◌-◌, ◌≤◌}
+use Prim.Native.Nat.{ℕ, ◌≤◌}
 use native.Mathlib.Omega.{arith}
 use mathlib.Core.Path.{◌≡◌, refl, sym, ap, subst, subst₂, ◌∙◌}
 use mathlib.Core.List.{List, [], ◌∷◌}
 use mathlib.Core.Option.{Option, some, none}
 use lib.ListN.{length, drop}
 use Rattle.logic.specs.Result.{ok}
-use Rattle.logic.specs.Infer.{same}
 use Rattle.logic.proofs.Basics.{clash}
 use Rattle.register.specs.Records.{Ask, appended}
 use Rattle.register.specs.Calls.{Lent, entry}
