@@ -2,12 +2,9 @@
 use Prim.Native.Nat.{ℕ, ◌≤◌, ◌<◌}
 use native.Mathlib.Omega.{arith}
 use mathlib.Core.Path.{◌≡◌, refl, sym, ap, subst, ◌∙◌}
-use mathlib.Core.Logic.{inl, inr}
-use mathlib.Core.List.{List, [], ◌∷◌}
+use mathlib.Core.List.{List}
 use lib.ListN.{length, take, drop}
 use borrow.Author.Tests.{le-leb, lt-leb}
-use types.Run.{OneOf}
-use denote.Enum.Declared.{tag_of}
 use Rattle.logic.specs.Limits.{most_words}
 use Rattle.logic.specs.Refusals.{output_short}
 use Rattle.logic.specs.Result.{Result, ok, refused}
@@ -32,7 +29,6 @@ use Rattle.simplify.specs.declared.reduce.Turn.{Turn}
 use Rattle.simplify.specs.declared.reduce.Turn.TheVariants.{Stepped, Settled, Refused}
 use Rattle.simplify.specs.declared.reduce.Simplification.{Simplification}
 use Rattle.simplify.specs.declared.reduce.Simplification.TheVariants.{Done, Refused as Ends}
-use Rattle.simplify.specs.contracts.reduce.Turn.{the_type}
 use Rattle.simplify.proofs.Taking.{front_at}
 
 -- ---- behind the last turn
@@ -47,15 +43,15 @@ module _ (last : Turn) (steps : ℕ) (old : List ℕ) where
   pub last_refused : {m p : ℕ} → last ≡ Refused m p → (t : Term) → SimplifiedAs (at_last last steps t (length old)) old old (Ends m p)
   last_refused e t = told_refused (ap (λ (l : Turn). at_last l steps t (length old)) e)
 
-  module _ (e : OneOf (0 ∷ 1 ∷ []) (tag_of the_type last)) where
+  module _ (e : (m p : ℕ) → last ≡ Refused m p → ⊥) where
     -- it is no refusal: the room for the result is tested
     fitting : (t : Term) {o : Result Simplified} → fitting_result (length old) (result_of t) ≡ o → at_last last steps t (length old) ≡ o
     fitting t i = go last e ∙ i
       where
-        go : (l : Turn) → OneOf (0 ∷ 1 ∷ []) (tag_of the_type l) → at_last l steps t (length old) ≡ fitting_result (length old) (result_of t)
+        go : (l : Turn) → ((m p : ℕ) → l ≡ Refused m p → ⊥) → at_last l steps t (length old) ≡ fitting_result (length old) (result_of t)
         go (Stepped n) e = refl
         go Settled e = refl
-        go (Refused m p) e = elim e [ inl x ↦ absurd (omega arith) | inr x ↦ absurd (omega arith) ]
+        go (Refused m p) e = absurd (e m p refl)
 
     pub last_short : {n : ℕ} (t : Term) → n ≡ size t → length old < n → SimplifiedAs (at_last last steps t (length old)) old old (Ends output_short 0)
     last_short t c b = told_refused (fitting t (fail _ _ _ (lt-leb (size t) (length old) (omega arith))))

@@ -81,7 +81,8 @@ module _ {from : List ℕ} {t u : Term} (left : ℕ) (h : At from 0 t) (e : next
     pub turn_limited : (m p : ℕ) → in_limits u ≡ refused m p → (x : Term) → At from 0 x → TurnedTo (turned left (next_step x)) new (Refused m p)
     turn_limited m p q = turn_refused m p (left_over u left z (stop_then _ q))
 
-    pub turn_stepped : {n : ℕ} → in_limits u ≡ ok tt → n ≡ size u → At new 0 u → (x : Term) → At from 0 x → TurnedTo (turned left (next_step x)) new (Taken n)
+    pub turn_stepped : {n : ℕ} → in_limits u ≡ ok tt → n ≡ size u → At new 0 u → (x : Term) → At from 0 x → TurnedTo (turned left (next_step x)) new
+        (Taken n)
     turn_stepped {n} q c a x k =
         let o = left_over u left z (then_is _ q refl) in
         rw (unique_at k h, e, o) (record { answer = ap (λ (y : ℕ). ok (some y)) c; front = λ v i. subst (At new 0) (some_inj (ok_inj i)) a })

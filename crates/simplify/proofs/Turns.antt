@@ -2,14 +2,11 @@
 use Prim.Native.Nat.{ℕ, zero, suc, ◌+◌, ◌-◌, ◌≤◌}
 use native.Mathlib.Omega.{arith}
 use mathlib.Core.Path.{◌≡◌, refl, sym, ap, subst, ◌∙◌}
-use mathlib.Core.Logic.{inl, inr}
-use mathlib.Core.List.{List, [], ◌∷◌}
+use mathlib.Core.List.{List, []}
 use mathlib.Core.Option.{Option, some, none, map}
 use lib.Dec.{ltb, leb}
 use lib.ListN.{length}
 use borrow.Author.Tests.{leb-true, ltb-true, lt-ltb}
-use types.Run.{OneOf}
-use denote.Enum.Declared.{tag_of}
 use Rattle.logic.specs.Limits.{most_words}
 use Rattle.logic.specs.Refusals.{step_remains}
 use Rattle.logic.specs.Result.{Result, ok, refused, ◌>>=◌, ◌>>◌}
@@ -31,7 +28,6 @@ use Rattle.steps.proofs.StepWords.{unique_at}
 use Rattle.simplify.specs.Turn.{Turnable, turned, turn_answer, TurnedTo}
 use Rattle.simplify.specs.Answers.{Subject, at_last, SimplifiedAs}
 use Rattle.simplify.specs.declared.reduce.Simplification.{Simplification}
-use Rattle.simplify.specs.contracts.reduce.Turn.{the_type}
 use Rattle.simplify.specs.declared.reduce.Turn.{Turn}
 use Rattle.simplify.specs.declared.reduce.Turn.TheVariants.{Stepped, Settled, Refused}
 
@@ -159,9 +155,9 @@ module _ {start : List ℕ} {budget : ℕ} {ws : List ℕ} {n left : ℕ} (T : S
         }
 
   -- none was taken: the answer is that of the last turn
-  pub last_turn : (r : Turn) {new : List ℕ} → TurnedTo turn_of new r → OneOf (1 ∷ 2 ∷ []) (tag_of the_type r) → (room : ℕ) (t : Term) → At start 0 t →
+  pub last_turn : (r : Turn) {new : List ℕ} → TurnedTo turn_of new r → ((m : ℕ) → r ≡ Stepped m → ⊥) → (room : ℕ) (t : Term) → At start 0 t →
       simplify_into budget room t ≡ at_last r (budget - left) T.subject.term room
-  last_turn (Stepped m) k e room t h = elim e [ inl x ↦ absurd (omega arith) | inr x ↦ absurd (omega arith) ]
+  last_turn (Stepped m) k e room t h = absurd (e m refl)
   last_turn Settled k e room t h = bound turn_of _ (sym k.answer) λ v i j.
       let z : budget - left + 0 ≡ budget - left = omega arith in
       bind_is (fitting_result room) (by_turn t h (i ∙ ap ok (unmapped v (ok_inj j))))
@@ -192,7 +188,7 @@ term_within T = let l = at_end T.subject.here in omega (arith, T.subject.count)
 
 -- what is answered behind the last turn is the answer
 pub last_answer : {start : List ℕ} {budget : ℕ} {ws : List ℕ} {n left : ℕ} (T : StepTurn start budget ws n left) (r : Turn) {mid : List ℕ} →
-    TurnedTo (turned left (next_step T.subject.term)) mid r → OneOf (1 ∷ 2 ∷ []) (tag_of the_type r) → {out output new : List ℕ} {a : Simplification} →
+    TurnedTo (turned left (next_step T.subject.term)) mid r → ((m : ℕ) → r ≡ Stepped m → ⊥) → {out output new : List ℕ} {a : Simplification} →
     output ≡ out → ((t : Term) → At ws 0 t → n ≡ size t → SimplifiedAs (at_last r (budget - left) t (length output)) output new a) →
     (t : Term) → At start 0 t → SimplifiedAs (simplify_into budget (length out) t) out new a
 last_answer T r k e {out} {new = new} {a} q f t h =
