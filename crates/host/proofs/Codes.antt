@@ -16,7 +16,6 @@ use Rattle.logic.proofs.Stopped.{not_refused, number_is, place_is, not_mapped}
 use Rattle.rules.specs.declared.derivation.Derivation.{Derivation}
 use Rattle.rules.specs.declared.derivation.Derivation.TheVariants.{Typed, Refused}
 use Rattle.words.specs.declared.verdict.Verdict.{Verdict}
-use Rattle.words.specs.declared.verdict.Verdict.TheVariants.{Refused as VerdictRefused}
 use Rattle.words.specs.Verdict.{verdict_answer}
 use Rattle.typing.specs.Check.{Judged}
 use Rattle.register.specs.Records.{Statement, Ask}
@@ -77,7 +76,8 @@ pub told_fits : {X : Type 0} (o : Result X) (r : Verdict) → verdict_answer r �
 told_fits (ok x) r v f m p e = absurd (not_refused (sym v ∙ e))
 told_fits (refused a b) r v f m p e = let q = sym v ∙ e in f m p (ap₂ refused (number_is q) (place_is q))
 
-pub told_code : {X : Type 0} (o : Result X) (r : Verdict) (code : ℕ) → verdict_answer r ≡ without_value o → code ≡ code_of (verdict_answer r) → code ≡ code_of o
+pub told_code : {X : Type 0} (o : Result X) (r : Verdict) (code : ℕ) → verdict_answer r ≡ without_value o → code ≡ code_of (verdict_answer r) → code
+    ≡ code_of o
 told_code (ok x) r code v c = c ∙ ap code_of v
 told_code (refused a b) r code v c = c ∙ ap code_of v
 
@@ -220,7 +220,12 @@ module _ (l : Lent) (old : List ℕ) (day : ℕ) (st : Statement) (new : List �
   unsaid_is m p f = sym (told f)
 
   pub said_nothing : (m p : ℕ) → r ≡ SaidRefused m p → (code : ℕ) → code ≡ m * number_unit + p → SaidTo l old day st new 0 code
-  said_nothing m p f code c = let e = unsaid_is m p f in record { answer = refused_code o m p code e c; register = S.register; added_is = sym (ap added_of e) }
+  said_nothing m p f code c = let e = unsaid_is m p f in record {
+    answer = refused_code o m p code e c;
+    register = S.register;
+    added_is =
+        sym (ap added_of e);
+  }
 
 pub say_fits : (l : Lent) (reg : List ℕ) (day : ℕ) (st : Statement) (m p : ℕ) → length l.sig + length st.words < place_limit →
     say_call l reg day st ≡ refused m p → Fits m p

@@ -12,7 +12,7 @@ use Rattle.logic.specs.Limits.{most_register}
 use Rattle.logic.specs.Refusals.{past_last_record, last_refusal}
 use Rattle.logic.specs.Result.{Result, ok, refused, ◌>>=◌, ◌>>◌, known, number_of}
 use Rattle.logic.proofs.Basics.{clash}
-use Rattle.logic.proofs.Results.{bound, tested, found, both_true}
+use Rattle.logic.proofs.Results.{bound, tested, both_true}
 use Rattle.register.specs.Records.{Record, Content, record_head, header, words_of, used_by, register_content}
 use Rattle.register.specs.Calls.{read_call, body_of, kind_of}
 use Rattle.register.proofs.Bounds.{read_bound}
