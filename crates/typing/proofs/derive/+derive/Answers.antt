@@ -376,7 +376,7 @@ derive-second-requires t c =
           (let p = c.requires in level R _ _ _ _ _ _ (between_children R _ c.if-kind-eq-ATOM.first _ _ first-derives c.in-Typed-first.is) (let B =
               between_children R _ c.if-kind-eq-ATOM.first _ _ first-derives c.in-Typed-first.is in
               inside_node _ _ _ B.type _ _ _ _ c.enter-entered.result _ _
-                  (c.enter-entered.ensures _ _ B.type B.enters) c.in-Fits.is) p.below mid-length p.room),
+              (c.enter-entered.ensures _ _ B.type B.enters) c.in-Fits.is) p.below mid-length p.room),
           mid-length,
           rest_length c.in-Fits.keep
               c.enter-entered.new.ws,
