@@ -10,17 +10,15 @@ use Rattle.logic.proofs.Basics.{clash}
 use Rattle.register.specs.Records.{Ask, appended}
 use Rattle.register.specs.Calls.{Lent, entry}
 use Rattle.register.specs.Calls.{request_call}
-use Rattle.register.specs.Batch.{items, asks, all_granted, batch_call, after_requests}
+use Rattle.register.specs.Batch.{items, next_item, asks, all_granted, batch_call, after_requests}
 use Rattle.register.specs.Batch.{after_batch, GrantedInTurn, none_left, one_more}
-use Rattle.register.proofs.Batch.{batches}
 use Rattle.register.proofs.Replaced.{batch_granted}
-use Rattle.item_list.specs.Items.{ask_at}
-use Rattle.batch_tests.specs.Answers.{batched_answer}
+use native.Mathlib.Decide.{dec_lt}
+use Rattle.item_list.specs.Items.{ask_at, item_end}
 use Rattle.batch.specs.Answers.{BatchedAs, AllGranted, GrantRoom}
-use Rattle.batch_tests.specs.declared.Batched.{Batched as BatchedCode}
-use Rattle.batch_tests.specs.declared.Batched.TheVariants.{Granted, Refused}
+use Rattle.std.specs.Prelude.{Ok, None}
 use Rattle.request.proofs.Grants.{grantable_now, grant_room}
-use Rattle.item_list.proofs.ItemPlaces.{WholeAt, no_items_left}
+use Rattle.item_list.proofs.ItemPlaces.{WholeAt, cut_there, no_items_left}
 
 -- ---- the grants
 
@@ -48,33 +46,33 @@ pub record Granting (old now : List ℕ) (day : ℕ) (ws : List ℕ) (at : ℕ) 
   pub same : (l : Lent) (new : List ℕ) → GrantedInTurn l old (items day ws) new → GrantedInTurn l now (items day (drop at ws)) new
 
 module _ {old now : List ℕ} {day : ℕ} {ws : List ℕ} {at : ℕ} (G : Granting old now day ws at) where
-  pub grants_ended : length ws ≤ at → (l : Lent) (new : List ℕ) → GrantedInTurn l old (items day ws) new → now ≡ new
-  grants_ended h l new g = none_granted (G.same l new g) (no_items_left day ws at h)
+  -- no whole item stands there: none is cut short, so none is left
+  pub grants_ended : None ≡ item_end at (next_item day (drop at ws)) → (l : Lent) (new : List ℕ) → GrantedInTurn l old (items day ws) new → now ≡ new
+  grants_ended e l new g = elim (dec_lt at (length ws)) [
+    | yes h ↦ absurd (cut_granted G.left.granted (cut_there day ws at h e))
+    | no h ↦ none_granted (G.same l new g) (no_items_left day ws at (omega arith))
+  ]
 
-  -- no item is cut short
-  pub grants_not_cut : items day (drop at ws) ≡ none ∷ [] → ⊥
-  grants_not_cut e = cut_granted G.left.granted e
+  -- a whole item that asks k
+  module _ {end : ℕ} (w : WholeAt day ws at end) {k : Ask} (e : k ≡ ask_at day ws at end) where
+    is : items day (drop at ws) ≡ some k ∷ items day (drop end ws)
+    is = w.is ∙ ap (λ k. some k ∷ items day (drop end ws)) (sym e)
 
-  module _ {end : ℕ} (w : WholeAt day ws at end) where
-    abbrev this : Ask
-    this = ask_at day ws at end
-
-    pub room_left : GrantRoom now this
+    pub room_left : GrantRoom now k
     room_left =
-        let e = (first_granted G.left.granted w.is).0 in
-        let H = grantable_now G.left.lent now this e in
-        (omega (arith, H.operation, H.proof.ready.not_more), H.extract, H.delivery, grant_room G.left.lent now this e)
+        let f = (first_granted G.left.granted is).0 in
+        let H = grantable_now G.left.lent now k f in
+        (omega (arith, H.operation, H.proof.ready.not_more), H.extract, H.delivery, grant_room G.left.lent now k f)
 
-    pub granting_next : {new : List ℕ} → new ≡ appended now day (entry this) → Granting old new day ws end
-    granting_next e = record {
+    pub granting_next : {new : List ℕ} → new ≡ appended now k.day (entry k) → Granting old new day ws end
+    granting_next f = record {
       within = w.within;
       left = record {
         lent = G.left.lent;
         new = G.left.new;
-        granted = subst (λ r. GrantedInTurn G.left.lent r (items day (drop end ws)) G.left.new) (sym e)
-            (first_granted G.left.granted w.is).1;
+        granted = subst (λ r. GrantedInTurn G.left.lent r (items day (drop end ws)) G.left.new) (sym f) (first_granted G.left.granted is).1;
       };
-      same = λ l new g. subst (λ r. GrantedInTurn l r (items day (drop end ws)) new) (sym e) (first_granted (G.same l new g) w.is).1;
+      same = λ l new g. subst (λ r. GrantedInTurn l r (items day (drop end ws)) new) (sym f) (first_granted (G.same l new g) is).1;
     }
 
 pub granting_start : {reg : List ℕ} {day : ℕ} {ws : List ℕ} → AllGranted reg day ws → Granting reg reg day ws 0
@@ -82,20 +80,13 @@ granting_start a = record { within = omega arith; left = a; same = λ l new g. g
 
 -- ---- what a batch leaves
 
-module _ (l : Lent) (reg : List ℕ) (day : ℕ) (ws : List ℕ) (r : BatchedCode) (e : batched_answer r ≡ batch_call l reg day ws) where
-  pub batched_kept : (i m p : ℕ) → r ≡ Refused i m p → BatchedAs l reg day ws reg r
-  batched_kept i m p q = record { answer = e; register = sym (batches.unchanged l reg day ws i m p (sym e ∙ ap batched_answer q)) }
+module _ (l : Lent) (reg : List ℕ) (day : ℕ) (ws : List ℕ) (e : batch_call l reg day ws ≡ all_granted) where
+  pub granted_all : AllGranted reg day ws
+  granted_all = record { lent = l; new = after_requests l reg (asks (items day ws)); granted = batch_granted l reg day ws e }
 
-  module _ (q : r ≡ Granted) where
-    succeeds : batch_call l reg day ws ≡ all_granted
-    succeeds = sym e ∙ ap batched_answer q
-
-    pub granted_all : AllGranted reg day ws
-    granted_all = record { lent = l; new = after_requests l reg (asks (items day ws)); granted = batch_granted l reg day ws succeeds }
-
-    pub batch_left : (new : List ℕ) → ((l : Lent) (last : List ℕ) → GrantedInTurn l reg (items day ws) last → new ≡ last) →
-        BatchedAs l reg day ws new Granted
-    batch_left new g = record {
-      answer = sym succeeds;
-      register = g l _ (batch_granted l reg day ws succeeds) ∙ ap (λ b. after_batch b l reg (asks (items day ws))) (sym succeeds);
-    }
+  pub batch_left : {new : List ℕ} → ((l : Lent) (last : List ℕ) → GrantedInTurn l reg (items day ws) last → new ≡ last) →
+      BatchedAs l reg day ws new (Ok tt)
+  batch_left g = record {
+    answer = sym e;
+    register = g l _ (batch_granted l reg day ws e) ∙ ap (λ b. after_batch b l reg (asks (items day ws))) (sym e);
+  }

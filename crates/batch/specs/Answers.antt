@@ -5,11 +5,12 @@ use Rattle.register.specs.Records.{Ask}
 use Rattle.register.specs.Calls.{Lent, entry}
 use Rattle.register.specs.Batch.{items, batch_call, batch_leaves, GrantedInTurn}
 use Rattle.records.specs.Answers.{Room}
-use Rattle.batch_tests.specs.declared.Batched.{Batched as BatchedCode}
+use Rattle.std.specs.Prelude.{Result as Answer}
+use Rattle.batch_tests.specs.declared.ItemRefusal.{ItemRefusal}
 use Rattle.batch_tests.specs.Answers.{batched_answer}
 
 -- the answer, and the register afterwards
-pub record BatchedAs (l : Lent) (old : List ℕ) (day : ℕ) (words new : List ℕ) (r : BatchedCode) : Type 0 where
+pub record BatchedAs (l : Lent) (old : List ℕ) (day : ℕ) (words new : List ℕ) (r : Answer (Unit {0}) ItemRefusal) : Type 0 where
   pub answer : batched_answer r ≡ batch_call l old day words
   pub register : new ≡ batch_leaves l old day words
 

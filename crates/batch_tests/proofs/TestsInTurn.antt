@@ -4,9 +4,9 @@ use native.Mathlib.Omega.{arith}
 use mathlib.Core.Path.{◌≡◌, refl, sym, ap, ap₂, ◌∙◌}
 use mathlib.Core.Bool.{Bool, true, false, ◌&&◌, cond}
 use mathlib.Core.List.{List, [], ◌∷◌, ◌++◌, append-nil, append_assoc}
-use mathlib.Core.Option.{Option, some, none}
+use mathlib.Core.Option.{Option, none}
 use lib.Dec.{leb, ltb}
-use lib.ListN.{length, take, drop, length-append, length-take, length-drop, take-append-drop}
+use lib.ListN.{length, take, drop, length-append, length-drop, take-append-drop}
 use lib.Seq.{take-append_seam, length-take-le}
 use borrow.Author.Tests.{leb-true, ltb-true}
 use Rattle.logic.specs.Limits.{payloads, most_operations}
@@ -20,15 +20,26 @@ use Rattle.typing.specs.Check.{ConstantsOf}
 use Rattle.write_records.proofs.Adds.{entry_length}
 use Rattle.register.specs.Records.{Ask, Content, register_content, used, latest, words_of, entry_extra, item_head}
 use Rattle.register.specs.Calls.{Lent, View, view, outline_of, on_register, payload, permission, entry, ask_test, day_test, signs_held, request_own}
-use Rattle.register.specs.Batch.{most_items, items, item_words, Batched, all_granted, refused_at, at_index, items_call, batch_call}
-use Rattle.register.specs.Batch.{day_if, granted_words}
+use Rattle.register.specs.Batch.{most_items, items, item_words, Batched, all_granted, refused_at, at_index, batch_call}
+use Rattle.register.specs.Batch.{day_if, granted_words, next_item}
 use Rattle.register.specs.BatchTests.{view_behind, items_own, items_once, at_start, asks_words, AllInRange, AskedBefore}
 use Rattle.register.proofs.BatchTests.{tested_once}
 use Rattle.search.specs.declared.view.View.{View as SearchView}
-use Rattle.search.specs.Sources.{register_view}
-use Rattle.item_list.specs.Items.{ask_at}
+use Rattle.search.specs.Sources.{IsView}
+use Rattle.shared_tests.specs.declared.signed.Signature.{Signature}
+use Rattle.shared_tests.specs.Shared.{lent_of}
+use Rattle.item_list.specs.Items.{ask_at, item_end}
 use Rattle.request.specs.Requested.{Seen}
-use Rattle.item_list.proofs.ItemPlaces.{WholeAt, no_items_left}
+use Rattle.std.proofs.Common.{rules}
+use Rattle.std.specs.Prelude.{Ok, Err, IsErr, Some, None}
+use Rattle.std.specs.Prelude.{Option as Maybe}
+use Rattle.std.specs.Option.{is_some}
+use Rattle.std.specs.Prelude.{Result as Answer}
+use Rattle.std.specs.Result.{IsErrAnd}
+use Rattle.logic.specs.Answer.{reason_number}
+use Rattle.batch_tests.specs.declared.ItemRefusal.{ItemRefusal}
+use Rattle.batch_tests.specs.Answers.{batched_answer}
+use Rattle.item_list.proofs.ItemPlaces.{WholeAt, whole_there, cut_there, no_items_left}
 
 -- ---- one request more
 
@@ -84,14 +95,13 @@ passed_room k s e =
       room = leb-true _ _ (require_ok (leb (s.outline.used + length (words_of (entry k))) s.outline.size) register_full 0 e₅);
     }
 
--- what is lent to the tests beside the register and the list
-pub record Given : Type 0 where
-  pub sig : List ℕ
-  pub n : ℕ
-  pub table : List ℕ
+-- for whatever is lent that fits the signature, its constants' types and the register
+abbrev pub Seeing : Signature → (table reg : List ℕ) → (View → Type 0) → Type 0
+Seeing g table reg P = (l : Lent) → (Σ : List Term) → (c : Content) → l.n ≡ g.operations → ConstantsOf g.list.now table Σ →
+    register_content reg ≡ ok c → P (view l (outline_of reg) c Σ)
 
 -- the items before the place passed: they are the requests ks, `index` in number
-pub record Testing (g : Given) (reg : List ℕ) (day : ℕ) (ws : List ℕ) (taken last at index : ℕ) : Type 0 where
+pub record Testing (g : Signature) (table reg : List ℕ) (day : ℕ) (ws : List ℕ) (taken last at index : ℕ) : Type 0 where
   pub ks : List Ask
   pub within : at ≤ length ws
   pub counted : index ≤ taken
@@ -99,125 +109,117 @@ pub record Testing (g : Given) (reg : List ℕ) (day : ℕ) (ws : List ℕ) (tak
   pub sum : taken ≡ used reg + granted_words ks
   pub latest_is : last ≡ day_if ks (latest reg) day
   pub fits : used reg + granted_words ks ≤ length reg
-  pub same : (l : Lent) (Σ : List Term) (c : Content) → l.n ≡ g.n → ConstantsOf g.sig g.table Σ → register_content reg ≡ ok c →
-      let s = view l (outline_of reg) c Σ in
-      items_own day 0 [] (items day ws) s ≡ items_own day index ks (items day (drop at ws)) s
+  pub same : Seeing g table reg (λ s. items_own day 0 [] (items day ws) s ≡ items_own day index ks (items day (drop at ws)) s)
 
-module _ (g : Given) (reg : List ℕ) (day : ℕ) (ws : List ℕ) where
-  pub testing_start : used reg ≤ length reg → Testing g reg day ws (used reg) (latest reg) 0 0
-  unfolding granted_words asks_words AllInRange
-  testing_start h = record {
-    ks = [];
-    within = omega arith;
-    counted = omega arith;
-    before = record { words = refl; in_range = tt };
-    sum = omega arith;
-    latest_is = refl;
-    fits = omega (arith, h);
-    same = λ l Σ c n C r. refl;
-  }
+pub testing_start : {g : Signature} {table reg : List ℕ} {day : ℕ} {ws : List ℕ} {taken last : ℕ} → used reg ≤ length reg → taken ≡ used reg →
+    last ≡ latest reg → Testing g table reg day ws taken last 0 0
+unfolding granted_words asks_words AllInRange
+testing_start h t e = record {
+  ks = [];
+  within = omega arith;
+  counted = omega arith;
+  before = record { words = refl; in_range = tt };
+  sum = omega arith;
+  latest_is = e;
+  fits = omega arith;
+  same = λ l Σ c n C r. refl;
+}
 
-  module _ {taken last at index : ℕ} (T : Testing g reg day ws taken last at index) where
-    -- what the tests of the next item see
-    pub seen_so : (v : SearchView) → v ≡ register_view reg → (c : Content) → register_content reg ≡ ok c →
-        Seen (record { size = v.size; used = taken; latest = last; source = v.source }) reg (take at ws) day c T.ks
-    seen_so v e c r = record {
-      reads = r;
-      is = λ i. record { size = (e i).size; used = T.sum i; latest = T.latest_is i; source = (e i).source };
-      before = T.before;
-      fits = T.fits;
-    }
+module _ {g : Signature} {table reg : List ℕ} {day : ℕ} {ws : List ℕ} {taken last at index : ℕ} (T : Testing g table reg day ws taken last at index) where
+  -- all items passed
+  pub tests_ended : length ws ≤ at → Seeing g table reg (λ s. all_granted ≡ items_own day 0 [] (items day ws) s)
+  unfolding items_own
+  tests_ended h l Σ c n C r =
+      sym (T.same l Σ c n C r ∙ ap (λ xs. items_own day index T.ks xs (view l (outline_of reg) c Σ)) (no_items_left day ws at h))
 
-    -- all items passed
-    pub tests_ended : length ws ≤ at → (l : Lent) (Σ : List Term) (c : Content) → l.n ≡ g.n → ConstantsOf g.sig g.table Σ →
-        register_content reg ≡ ok c → all_granted ≡ items_own day 0 [] (items day ws) (view l (outline_of reg) c Σ)
-    unfolding items_own
-    tests_ended h l Σ c n C r =
-        sym (T.same l Σ c n C r ∙ ap (λ xs. items_own day index T.ks xs (view l (outline_of reg) c Σ)) (no_items_left day ws at h))
+  -- the next is cut short
+  pub tests_cut : items day (drop at ws) ≡ none ∷ [] → Seeing g table reg (λ s. refused_at index malformed 0 ≡ items_own day 0 [] (items day ws) s)
+  unfolding items_own
+  tests_cut e l Σ c n C r = sym (T.same l Σ c n C r ∙ ap (λ xs. items_own day index T.ks xs (view l (outline_of reg) c Σ)) e)
 
-    -- the next is cut short
-    pub tests_cut : items day (drop at ws) ≡ none ∷ [] → (l : Lent) (Σ : List Term) (c : Content) → l.n ≡ g.n →
-        ConstantsOf g.sig g.table Σ → register_content reg ≡ ok c →
-        refused_at index malformed 0 ≡ items_own day 0 [] (items day ws) (view l (outline_of reg) c Σ)
-    unfolding items_own
-    tests_cut e l Σ c n C r =
-        sym (T.same l Σ c n C r ∙ ap (λ xs. items_own day index T.ks xs (view l (outline_of reg) c Σ)) e)
+  -- it is whole, and asks k
+  module _ {end : ℕ} (w : WholeAt day ws at end) {k : Ask} (e : k ≡ ask_at day ws at end) where
+    abbrev here : Ask
+    here = ask_at day ws at end
 
-    -- it is whole, and these are the answers to its own tests
-    module _ {end : ℕ} (w : WholeAt day ws at end) (o : Result (Unit {0}))
-        (answered : (l : Lent) (Σ : List Term) (c : Content) → l.n ≡ g.n → ConstantsOf g.sig g.table Σ → register_content reg ≡ ok c →
-        o ≡ request_own (ask_at day ws at end) (view_behind T.ks day (view l (outline_of reg) c Σ))) where
-      abbrev here : Ask
-      here = ask_at day ws at end
-
-      turn : (l : Lent) (Σ : List Term) (c : Content) → l.n ≡ g.n → ConstantsOf g.sig g.table Σ → register_content reg ≡ ok c →
-          let s = view l (outline_of reg) c Σ in
-          items_own day 0 [] (items day ws) s ≡ at_index index o (items_own day (suc index) (T.ks ++ (here ∷ [])) (items day (drop end ws)) s)
+    -- these are the answers to its own tests
+    module _ {o : Result (Unit {0})} (answered : Seeing g table reg (λ s. o ≡ request_own k (view_behind T.ks k.day s))) where
+      turn : Seeing g table reg (λ s.
+          items_own day 0 [] (items day ws) s ≡ at_index index o (items_own day (suc index) (T.ks ++ (here ∷ [])) (items day (drop end ws)) s))
       unfolding items_own
       turn l Σ c n C r =
           let s = view l (outline_of reg) c Σ in
           T.same l Σ c n C r ∙ ap (λ xs. items_own day index T.ks xs s) w.is
-          ∙ ap (λ o. at_index index o (items_own day (suc index) (T.ks ++ (here ∷ [])) (items day (drop end ws)) s)) (sym (answered l Σ c n C r))
+          ∙ ap (λ o. at_index index o (items_own day (suc index) (T.ks ++ (here ∷ [])) (items day (drop end ws)) s))
+          (sym (answered l Σ c n C r ∙ ap (λ k. request_own k (view_behind T.ks k.day s)) e))
 
-      pub item_refused_so : (m p : ℕ) → o ≡ refused m p → (l : Lent) (Σ : List Term) (c : Content) → l.n ≡ g.n →
-          ConstantsOf g.sig g.table Σ → register_content reg ≡ ok c →
-          refused_at index m p ≡ items_own day 0 [] (items day ws) (view l (outline_of reg) c Σ)
-      item_refused_so m p f l Σ c n C r =
+      pub item_refused_so : {m p : ℕ} → o ≡ refused m p → Seeing g table reg (λ s. refused_at index m p ≡ items_own day 0 [] (items day ws) s)
+      item_refused_so f l Σ c n C r =
           let s = view l (outline_of reg) c Σ in
-          sym (turn l Σ c n C r
-          ∙ ap (λ o. at_index index o (items_own day (suc index) (T.ks ++ (here ∷ [])) (items day (drop end ws)) s)) f)
+          sym (turn l Σ c n C r ∙ ap (λ o. at_index index o (items_own day (suc index) (T.ks ++ (here ∷ [])) (items day (drop end ws)) s)) f)
 
-      module _ (f : o ≡ ok tt) (l : Lent) (Σ : List Term) (c : Content) (n : l.n ≡ g.n) (C : ConstantsOf g.sig g.table Σ)
-          (r : register_content reg ≡ ok c) (ops : l.n ≤ most_operations) where
+      module _ (f : o ≡ ok tt) {Σ : List Term} {c : Content} (C : ConstantsOf g.list.now table Σ) (r : register_content reg ≡ ok c)
+          (ops : g.operations ≤ most_operations) where
         -- its numbers are in range, and its entry has room behind those before it
-        room : PassedRoom here (view_behind T.ks day (view l (outline_of reg) c Σ))
-        room = passed_room here (view_behind T.ks day (view l (outline_of reg) c Σ)) (sym (answered l Σ c n C r) ∙ f)
+        room : PassedRoom k (view_behind T.ks k.day (view (lent_of g.list.now g.operations []) (outline_of reg) c Σ))
+        room = passed_room k (view_behind T.ks k.day (view (lent_of g.list.now g.operations []) (outline_of reg) c Σ))
+            (sym (answered (lent_of g.list.now g.operations []) Σ c refl C r) ∙ f)
 
-        -- the words of the proof
-        proof_words : length here.proof ≡ end - at - item_head
-        proof_words = omega (arith, length-take (end - (at + item_head)) (drop (at + item_head) ws), length-drop (at + item_head) ws, w.head, w.within)
+        sum_fits : taken + (length k.proof + entry_extra) ≤ length reg
+        sum_fits = omega (arith, room.room, entry_length k, T.sum)
 
-        pub sum_fits : taken + (end - at - item_head) + entry_extra ≤ length reg
-        sum_fits = omega (arith, room.room, proof_words, entry_length here, T.sum)
-
-        pub testing_next : Testing g reg day ws (taken + (end - at - item_head) + entry_extra) day end (index + 1)
+        pub testing_next : Testing g table reg day ws (taken + (length k.proof + entry_extra)) day end (index + 1)
         testing_next =
-            let more = words_behind T.ks here in
+            let more = words_behind T.ks k in
             record {
-              ks = T.ks ++ (here ∷ []);
+              ks = T.ks ++ (k ∷ []);
               within = w.within;
               counted = omega (arith, T.counted);
               before = record {
-                words = asked_more ws T.ks at end here T.before.words w.words w.within;
-                in_range = in_range_more T.ks here T.before.in_range (omega (arith, room.operation, ops)) room.extract room.delivery;
+                words = asked_more ws T.ks at end k T.before.words (w.words ∙ ap (λ k. item_words k ++ drop end ws) (sym e)) w.within;
+                in_range = in_range_more T.ks k T.before.in_range (omega (arith, room.operation, ops)) room.extract room.delivery;
               };
-              sum = omega (arith, T.sum, more, proof_words);
+              sum = omega (arith, T.sum, more);
               latest_is = set T.ks;
-              fits = omega (arith, sum_fits, more, proof_words, T.sum);
+              fits = omega (arith, sum_fits, more, T.sum);
               same = λ l' Σ' c' n' C' r'.
                   let s = view l' (outline_of reg) c' Σ' in
                   let i : suc index ≡ index + 1 = omega arith in
                   turn l' Σ' c' n' C' r'
                   ∙ ap (λ o. at_index index o (items_own day (suc index) (T.ks ++ (here ∷ [])) (items day (drop end ws)) s)) f
-                  ∙ ap (λ j. items_own day j (T.ks ++ (here ∷ [])) (items day (drop end ws)) s) i;
+                  ∙ ap₂ (λ j k. items_own day j (T.ks ++ (k ∷ [])) (items day (drop end ws)) s) i (sym e);
             }
           where
-            set : (ks : List Ask) → day ≡ day_if (ks ++ (here ∷ [])) (latest reg) day
+            set : (ks : List Ask) → day ≡ day_if (ks ++ (k ∷ [])) (latest reg) day
             set [] = refl
             set (k ∷ ks) = refl
 
+-- what the tests of the next item see, which is one of the day
+pub seen_so : {g : Signature} {table : List ℕ} {day : ℕ} {ws : List ℕ} {taken last at index day' : ℕ} (v : SearchView) →
+    (T : Testing g table v.source.list.now day ws taken last at index) → IsView v v.source.list.now → day' ≡ day →
+    (c : Content) → register_content v.source.list.now ≡ ok c →
+    Seen (record { size = v.size; used = taken; latest = last; source = v.source }) (take at ws) day' c T.ks
+seen_so v T V e c r = record {
+  reads = r;
+  span = V.span;
+  size = V.size;
+  used_is = T.sum;
+  latest_is = T.latest_is ∙ ap (day_if T.ks (latest v.source.list.now)) (sym e);
+  before = T.before;
+  fits = T.fits;
+}
+
 -- ---- all tests of a batch
 
-pub some_words : (ws : List ℕ) → (length ws ≡ 0 → ⊥) → 0 < length ws
-some_words [] n = absurd (n refl)
-some_words (w ∷ ws) n = omega arith
+-- what `?` hands on: the refusal b
+pub batch_handed_on : (r : Answer (Unit {0}) ItemRefusal) (b : ItemRefusal) → IsErr r × IsErrAnd r (λ y. y ≡ b) →
+    batched_answer r ≡ refused_at b.index (reason_number b.refusal.reason) b.refusal.place
+batch_handed_on (Ok x) b h = absurd (search rules)
+batch_handed_on (Err y) b h = ap (λ (d : ItemRefusal). refused_at d.index (reason_number d.refusal.reason) d.refusal.place) (search rules)
 
 module _ (l : Lent) (reg : List ℕ) (day : ℕ) (ws : List ℕ) where
   abbrev counted : (few : Bool) → Batched → Batched
   counted few rest = cond few rest (refused_at 0 bad_number 0)
-
-  pub too_many_refused : false ≡ leb (length (items day ws)) most_items → refused_at 0 bad_number 0 ≡ batch_call l reg day ws
-  too_many_refused e = ap (λ (b : Bool). counted b (items_call l reg day (items day ws))) e
 
   module _ (e : true ≡ leb (length (items day ws)) most_items) where
     -- few enough: a batch is tested without writing
@@ -229,9 +231,14 @@ module _ (l : Lent) (reg : List ℕ) (day : ℕ) (ws : List ℕ) where
     pub empty_tested : length ws ≡ 0 → at_index 0 (on_register l reg (day_test day)) all_granted ≡ batch_call l reg day ws
     empty_tested h = tested_so [] (no_items_left day ws 0 (omega (arith, h)))
 
-    pub cut_first : items day ws ≡ none ∷ [] → refused_at 0 malformed 0 ≡ batch_call l reg day ws
-    cut_first f = tested_so (none ∷ []) f
+    -- by the end of the first item
+    pub cut_first : (x : Maybe ℕ) → 0 < length ws → x ≡ item_end 0 (next_item day ws) → is_some x ≡ false → refused_at 0 malformed 0 ≡ batch_call l reg day ws
+    cut_first None h f g = tested_so (none ∷ []) (cut_there day ws 0 h f)
+    cut_first (Some end) h f g = absurd (search rules)
 
-    pub whole_first : {k : Ask} {xs : List (Option Ask)} → items day ws ≡ some k ∷ xs →
+    pub whole_first : (x : Maybe ℕ) → x ≡ item_end 0 (next_item day ws) → is_some x ≡ true →
         at_start (on_register l reg (λ s. ok (items_own day 0 [] (items day ws) s))) ≡ batch_call l reg day ws
-    whole_first {k} {xs} f = ap (λ ys. at_start (on_register l reg (λ s. ok (items_own day 0 [] ys s)))) f ∙ tested_so (some k ∷ xs) f
+    whole_first None f g = absurd (search rules)
+    whole_first (Some end) f g =
+        let w = (whole_there day ws 0 f).is in
+        ap (λ ys. at_start (on_register l reg (λ s. ok (items_own day 0 [] ys s)))) w ∙ tested_so _ w

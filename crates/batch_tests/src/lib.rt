@@ -1,217 +1,148 @@
 // The tests of a batch. The items are tested in turn without writing, each behind those before it.
 #![tactic(auto)]
 
-ghost use Rattle.std.specs.Prelude.{◌≡◌, List, [], take};
+ghost use Rattle.std.specs.Prelude.{◌≡◌, List, []};
+ghost use Rattle.logic.specs.Result.{ok};
 ghost use Rattle.logic.specs.Term.{Term};
 ghost use Rattle.typing.specs.Check.{ConstantsOf};
-ghost use Rattle.register.specs.Records.{Content, Ask, register_content};
-ghost use Rattle.register.specs.Calls.{Lent, view as view-seen, outline_of, on_register, day_test, request_own};
+ghost use Rattle.register.specs.Records.{Content, register_content};
+ghost use Rattle.register.specs.Calls.{Lent, view as view-seen, outline_of, on_register, day_test};
 ghost use Rattle.register.specs.Batch.{items as items_of, all_granted, at_index, batch_call};
-ghost use Rattle.register.specs.BatchTests.{view_behind, items_own, at_start};
-ghost use Rattle.logic.specs.Result.{ok};
-ghost use Rattle.shared_tests.specs.Shared.{lent_of};
+ghost use Rattle.register.specs.BatchTests.{items_own, at_start};
+ghost use Rattle.shared_tests.specs.Shared.{lent_by};
 ghost use Rattle.batch_tests.specs.Answers.{batched_answer, TestableItems};
-ghost use Rattle.item_list.specs.Items.{ask_at, ItemWithin};
-ghost use Rattle.words.specs.Verdict.{verdict_answer};
-ghost use Rattle.request.specs.Requested.{Seen, Askable};
 
 use buckets::{BUCKETS, fill};
-use item_list::{Item, few, item_at};
+use item_list::{ask_at, few, item_at};
 use logic::limit::MOST_CONSTANTS;
-use logic::refusal::{BAD_NUMBER, DAY_BEFORE_LATEST, MALFORMED};
-use records::format::{DELIVERY, EXTRACT, GRANT_WORDS, ITEM_HEAD, OPERATION};
+use logic::refusal::{Reason, Refusal};
+use records::format::GRANT_WORDS;
 use request::tests::request_tests;
-use search::statement::in_register;
 use search::view::{View, view_of};
-use shared_tests::{Ready, in_time, prepare};
-use words::verdict::Verdict;
+use shared_tests::signed::Signature;
+use shared_tests::{in_time, prepare};
 
-// The answer: all are granted, or the first that fails has this index, number and place.
-#[derive(Drop)]
-pub enum Batched {
-    Granted,
-    Refused {
-        index: usize,
-        number: u32,
-        place: usize,
-    },
+// The refusal of a batch: the index of its first item that fails, and what that is refused for.
+#[derive(Clone, Copy, Debug, PartialEq, Eq)]
+pub struct ItemRefusal {
+    pub index: usize,
+    pub refusal: Refusal,
 }
 
-// The tests of the item that stands at a place and ends at another, behind the items before it. The view has the words
-// used and the latest day behind those.
-fn test_item(
-    sig: &[u32],
-    n: u32,
-    table: &[u32],
-    view: View,
-    register: &[u32],
-    buckets: &[usize],
-    day: u32,
-    items: &[u32],
-    at: usize,
-    end: usize,
-    ws: &mut [u32],
-) -> Verdict
-    requires { ItemWithin items.now at end × Askable sig.now n table.now view register.now buckets.now (take at items.now) day
-        ws.old }
-    ensures { (l : Lent) → (Σ : List Term) → (c : Content) → (ks : List Ask) → l.n ≡ n
-        → ConstantsOf sig.now table.now Σ → Seen view register.now (take at items.now) day c ks
-        → verdict_answer result ≡ request_own (ask_at day items.now at end)
-        (view_behind ks day (view-seen l (outline_of register.now) c Σ)) }
-{
-    request_tests(
-        sig,
-        n,
-        table,
-        view,
-        register,
-        buckets,
-        &items[..at],
-        day,
-        items[at + OPERATION],
-        items[at + EXTRACT],
-        items[at + DELIVERY],
-        &items[at + ITEM_HEAD..end],
-        ws,
-    )
+// A refusal of the batch as a whole, at index 0.
+impl From<Refusal> for ItemRefusal {
+    ghost from_gives = { λ r b. b ≡ record { index = 0; refusal = r } };
+
+    fn from(refusal: Refusal) -> ItemRefusal {
+        ItemRefusal { index: 0, refusal }
+    }
 }
 
 // The tests of the items in turn, behind the shared ones. Nothing is written: the words that the items before will take
 // are a sum that is carried along.
 fn test_items(
-    sig: &[u32],
-    n: u32,
+    signature: Signature,
     table: &[u32],
-    register: &[u32],
+    view: View,
     buckets: &[usize],
     day: u32,
     items: &[u32],
     ws: &mut [u32],
-) -> Batched
-    requires { TestableItems sig.now n table.now register.now buckets.now ws.old }
-    ensures { (l : Lent) → (Σ : List Term) → (c : Content) → l.n ≡ n → ConstantsOf sig.now table.now Σ
-        → register_content register.now ≡ ok c
-        → batched_answer result ≡ items_own day 0 [] (items_of day items.now) (view-seen l (outline_of register.now) c Σ) }
+) -> Result<(), ItemRefusal>
+    requires { TestableItems signature.list.now signature.operations table.now view buckets.now ws.old }
+    ensures { (l : Lent) → (Σ : List Term) → (c : Content) → l.n ≡ signature.entry.operations
+        → ConstantsOf signature.entry.list.now table.now Σ → register_content view.entry.source.list.now ≡ ok c
+        → batched_answer result ≡ items_own day 0 [] (items_of day items.now)
+        (view-seen l (outline_of view.entry.source.list.now) c Σ) }
 {
-    let whole = view_of(register);
-    let source = whole.source;
-    let mut used = whole.used;
-    let mut latest = whole.latest;
+    let mut used = view.used;
+    let mut latest = view.latest;
     let mut at = 0;
     let mut index = 0;
+    // no plainer: the length word of an item says where the next one stands
     while at < items.len() {
-        let item = item_at(items, at);
-        let Item::Whole { end } = item else {
-            return Batched::Refused {
+        let Some(end) = item_at(items, at) else {
+            return Err(ItemRefusal {
                 index,
-                number: MALFORMED,
-                place: 0,
-            };
+                refusal: Reason::Malformed.at(0),
+            });
         };
-        let view = View {
-            size: whole.size,
+        let ask = ask_at(items, day, at, end);
+        let behind = View {
             used,
             latest,
-            source,
+            ..view
         };
-        let verdict = test_item(
-            sig, n, table, view, register, buckets, day, items, at, end, ws,
-        );
-        if let Verdict::Refused { number, place } = verdict {
-            return Batched::Refused {
-                index,
-                number,
-                place,
-            };
+        if let Err(refusal) = request_tests(
+            signature,
+            table,
+            behind,
+            buckets,
+            &items[..at],
+            ask,
+            ws,
+        ) {
+            return Err(ItemRefusal { index, refusal });
         }
-        used = used + (end - at - ITEM_HEAD) + GRANT_WORDS;
+        used += ask.proof.len() + GRANT_WORDS;
         latest = day;
         at = end;
         index += 1;
     }
-    Batched::Granted
+    Ok(())
 }
 
 // The tests of a batch of one item or more that begins with a whole one: the shared ones are made once, and the
 // statements held are put in buckets once.
-fn tried(sig: &[u32], n: u32, register: &[u32], day: u32, items: &[u32], ws: &mut [u32]) -> Batched
-    ensures { batched_answer result ≡ at_start (on_register (lent_of sig.now n ws.old) register.now
-        (λ s. ok (items_own day 0 [] (items_of day items.now) s))) }
-{
-    let mut table = [0u32; MOST_CONSTANTS];
-    let ready = prepare(sig, n, register, &mut table, ws);
-    match ready {
-        Ready::Refused { number, place } => Batched::Refused {
-            index: 0,
-            number,
-            place,
-        },
-        Ready::Constants { count } => {
-            let mut buckets = [0usize; BUCKETS];
-            let source = in_register(register);
-            fill(source, register, &mut buckets);
-            test_items(sig, n, &table[..count], register, &buckets, day, items, ws)
-        }
-    }
-}
-
-// Those of an empty batch: "tests 1 to 4, 5 for n and the permit and receipt types, and 23".
-fn idle(sig: &[u32], n: u32, register: &[u32], day: u32, ws: &mut [u32]) -> Batched
-    ensures { batched_answer result ≡
-        at_index 0 (on_register (lent_of sig.now n ws.old) register.now (day_test day)) all_granted }
-{
-    let mut table = [0u32; MOST_CONSTANTS];
-    let ready = prepare(sig, n, register, &mut table, ws);
-    match ready {
-        Ready::Refused { number, place } => Batched::Refused {
-            index: 0,
-            number,
-            place,
-        },
-        Ready::Constants { count: _ } => {
-            let timely = in_time(register, day);
-            if timely {
-                return Batched::Granted;
-            }
-            Batched::Refused {
-                index: 0,
-                number: DAY_BEFORE_LATEST,
-                place: 0,
-            }
-        }
-    }
-}
-
-// All tests of a batch: "More than 16 requests, one cut short included, is 5 at index 0, before any is tried".
-pub fn testable(
-    sig: &[u32],
-    n: u32,
+fn tried(
+    signature: Signature,
     register: &[u32],
     day: u32,
     items: &[u32],
     ws: &mut [u32],
-) -> Batched
-    ensures { batched_answer result ≡
-        batch_call (lent_of sig.now n ws.old) register.now day items.now }
+) -> Result<(), ItemRefusal>
+    ensures { batched_answer result ≡ at_start (on_register (lent_by signature.entry ws.old) register.now
+        (λ s. ok (items_own day 0 [] (items_of day items.now) s))) }
 {
-    let fine = few(items);
-    if !fine {
-        return Batched::Refused {
-            index: 0,
-            number: BAD_NUMBER,
-            place: 0,
-        };
+    let mut table = [0u32; MOST_CONSTANTS];
+    let count = prepare(signature, register, &mut table, ws)?;
+    let mut buckets = [0usize; BUCKETS];
+    let view = view_of(register);
+    fill(view.source, &mut buckets);
+    test_items(signature, &table[..count], view, &buckets, day, items, ws)
+}
+
+// Those of an empty batch: "tests 1 to 4, 5 for n and the permit and receipt types, and 23".
+fn idle(signature: Signature, register: &[u32], day: u32, ws: &mut [u32]) -> Result<(), ItemRefusal>
+    ensures { batched_answer result ≡
+        at_index 0 (on_register (lent_by signature.entry ws.old) register.now (day_test day)) all_granted }
+{
+    let mut table = [0u32; MOST_CONSTANTS];
+    prepare(signature, register, &mut table, ws)?;
+    if !in_time(register, day) {
+        return Err(Reason::DayBeforeLatest.at(0).into());
     }
-    if items.len() == 0 {
-        return idle(sig, n, register, day, ws);
+    Ok(())
+}
+
+// All tests of a batch: "More than 16 requests, one cut short included, is 5 at index 0, before any is tried".
+pub fn testable(
+    signature: Signature,
+    register: &[u32],
+    day: u32,
+    items: &[u32],
+    ws: &mut [u32],
+) -> Result<(), ItemRefusal>
+    ensures { batched_answer result ≡ batch_call (lent_by signature.entry ws.old) register.now day items.now }
+{
+    if !few(items) {
+        return Err(Reason::BadNumber.at(0).into());
     }
-    let first = item_at(items, 0);
-    let Item::Whole { end: _ } = first else {
-        return Batched::Refused {
-            index: 0,
-            number: MALFORMED,
-            place: 0,
-        };
-    };
-    tried(sig, n, register, day, items, ws)
+    if items.is_empty() {
+        return idle(signature, register, day, ws);
+    }
+    if item_at(items, 0).is_none() {
+        return Err(Reason::Malformed.at(0).into());
+    }
+    tried(signature, register, day, items, ws)
 }

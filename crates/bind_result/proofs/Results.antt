@@ -4,7 +4,7 @@ use native.Mathlib.Nat.{add-zero}
 use native.Mathlib.Omega.{arith}
 use mathlib.Core.Path.{◌≡◌, refl, sym, ap, ap₂, subst, ◌∙◌}
 use mathlib.Core.Logic.{inl, inr}
-use mathlib.Core.Bool.{Bool, true, false, not, cond}
+use mathlib.Core.Bool.{Bool, true, false, cond}
 use mathlib.Core.List.{List, ◌∷◌, ◌++◌, append_assoc, tail-eq_of_cons-eq}
 use lib.Dec.{ltb, eqb}
 use lib.IntN.{pos, negsuc}
@@ -36,9 +36,13 @@ use Rattle.moves.proofs.Shifts.{size_shift, length_shift, zero_shifted}
 use Rattle.rules.specs.Rule.{bind_type}
 use Rattle.rules.specs.Scope.{entry_head}
 use Rattle.rules.specs.Form.{front_words, TypeFormed}
-use Rattle.bind_result.specs.BindResult.{Binds}
-use Rattle.rules.specs.declared.derivation.Derivation.TheVariants.{Typed, Refused}
-use Rattle.rules.proofs.Fronts.{denied, measured_fits, formed_refusal, formed_refused, writes, written_kept}
+use Rattle.bind_result.specs.BindResult.{Binds, Bindable}
+use Rattle.std.specs.Prelude.{Ok}
+use Rattle.std.specs.Prelude.{Result as Answer}
+use Rattle.logic.specs.Answer.{answer as told}
+use Rattle.logic.specs.declared.refusal.Refusal.{Refusal}
+use Rattle.rules.specs.declared.typed.Typed.{Typed}
+use Rattle.rules.proofs.Fronts.{measured_fits, formed_refusal, formed_refused, writes, written_kept}
 
 -- ---- words and terms
 
@@ -119,20 +123,20 @@ bound_said : (at : ℕ) (p B : Term) (s : SaidBy p B) (o : Result Term)
     → (require (eqb (occurs 0 s.right) 0) variable_escapes at >> measured at (Says p (lower s.right))) ≡ o → bind_type at p B ≡ o
 bound_said at p B s o e = ap (bind_type at p) s.is ∙ pass condition_fails at (same_yes refl) e
 
-module _ (ws : List ℕ) (used at m end : ℕ) (p q B : Term) (j : Binds ws used m p q B) where
+module _ {ws : List ℕ} {used m : ℕ} {p q B : Term} (at end : ℕ) (j : Binds ws used m p q B) where
   -- the words before the principal's in the entry
-  pub total_is : get_or ws (length ws - used) 0 ≡ entry_head + (1 + size p + size q)
+  total_is : get_or ws (length ws - used) 0 ≡ entry_head + (1 + size p + size q)
   total_is =
       ap (λ (k : ℕ). get_or ws k 0) (sym (add-zero (length ws - used))) ∙ sym (get_or-drop (length ws - used) ws 0 0) ∙ ap
       (λ (l : List ℕ). get_or l 0 0) j.kept
 
-  pub kept_size : get_or ws (length ws - used + 2) 0 ≡ size q
+  kept_size : get_or ws (length ws - used + 2) 0 ≡ size q
   kept_size = sym (get_or-drop (length ws - used) ws 2 0) ∙ ap (λ (l : List ℕ). get_or l 2 0) j.kept
 
   pub said_is : get_or ws (length ws - used) 0 - entry_head - get_or ws (length ws - used + 2) 0 ≡ 1 + size p
   said_is = let t = total_is in let k = kept_size in omega arith
 
-  pub kept_inside : length ws - used + entry_head + (1 + size p) ≤ length ws
+  kept_inside : length ws - used + entry_head + (1 + size p) ≤ length ws
   kept_inside =
       let a : length (drop (length ws - used) ws) ≡ length ws - (length ws - used) = length-drop (length ws - used) ws in
       let z : length (encode (raise 1 p)) ≡ size p = length_shift 0 (pos 1) p in
@@ -140,10 +144,10 @@ module _ (ws : List ℕ) (used at m end : ℕ) (p q B : Term) (j : Binds ws used
       let d : length ((encode (raise 1 p) ++ encode q) ++ j.rest) ≡ length (encode (raise 1 p)) + length (encode q) + length j.rest = simp length-append in
       omega arith
 
-  unsaid : (SaidBy p B → ⊥) → TypeFormed (bind_type at p B) end ws ws (Refused condition_fails at)
-  unsaid n = formed_refused _ condition_fails at end ws (bound_unsaid at p B n)
+  unsaid : {r : Answer Typed Refusal} → (SaidBy p B → ⊥) → told r ≡ refused condition_fails at → TypeFormed (bind_type at p B) end ws ws r
+  unsaid n t = formed_refused _ condition_fails at end ws (bound_unsaid at p B n) t
 
-  module _ (said : ℕ) (e : said ≡ 1 + size p) where
+  module _ {said : ℕ} (e : said ≡ 1 + size p) where
     said_size : (s : SaidBy p B) → m ≡ said + size s.right
     unfolding size
     said_size s =
@@ -152,8 +156,8 @@ module _ (ws : List ℕ) (used at m end : ℕ) (p q B : Term) (j : Binds ws used
         let k = j.type_words in
         omega arith
 
-    pub bind_short : m ≤ said → TypeFormed (bind_type at p B) end ws ws (Refused condition_fails at)
-    bind_short l = unsaid λ s. let z = said_size s in let k = size_pos s.right in omega arith
+    pub bind_short : {r : Answer Typed Refusal} → m ≤ said → told r ≡ refused condition_fails at → TypeFormed (bind_type at p B) end ws ws r
+    bind_short l t = unsaid (λ s. let z = said_size s in let k = size_pos s.right in omega arith) t
 
     kept_part : take (length ws - used + entry_head + said - (length ws - used + entry_head)) (drop (length ws - used + entry_head) ws) ≡ op_word
         saysO ∷ encode
@@ -167,9 +171,11 @@ module _ (ws : List ℕ) (used at m end : ℕ) (p q B : Term) (j : Binds ws used
         ∙ ap (λ (l : List ℕ). op_word saysO ∷ l) (append_assoc (encode (raise 1 p)) (encode q) j.rest))
         ∙ take_at (op_word saysO ∷ encode (raise 1 p)) (encode q ++ j.rest) said n
 
-    pub bind_differs : (r : Bool) → not r ≡ true → (take said ws ≡ take (length ws - used + entry_head + said - (length ws - used + entry_head))
-        (drop (length ws - used + entry_head) ws) → r ≡ true) → TypeFormed (bind_type at p B) end ws ws (Refused condition_fails at)
-    bind_differs r t f = unsaid λ s. denied r t (f (said_words ws said p B j.type e s ∙ sym kept_part))
+    pub bind_differs : {r : Answer Typed Refusal} (b : Bool) → b ≡ false
+        → (take said ws ≡ take (length ws - used + entry_head + said - (length ws - used + entry_head))
+        (drop (length ws - used + entry_head) ws) → b ≡ true) → told r ≡ refused condition_fails at
+        → TypeFormed (bind_type at p B) end ws ws r
+    bind_differs b z f t = unsaid (λ s. clash (cc (f (said_words ws said p B j.type e s ∙ sym kept_part)))) t
 
     module _ (agree : take said ws ≡ take (length ws - used + entry_head + said - (length ws - used + entry_head)) (drop (length ws - used + entry_head) ws))
       where
@@ -178,6 +184,10 @@ module _ (ws : List ℕ) (used at m end : ℕ) (p q B : Term) (j : Binds ws used
 
         pub said_at : At ws 0 B
         said_at = record { plain = node_plain saying.is j.type.plain; rest = j.type.rest; words = j.type.words }
+
+        -- and a shift by 0 leaves it there
+        pub said_still : {mid : List ℕ} {r : Shift} → ((t : Term) → At ws 0 t → Shifted t 1 (pos 0) ws 0 mid r) → At mid 0 B
+        said_still f = subst (λ (v : List ℕ). At v 0 B) (sym (zero_shifted said_at (f B said_at))) said_at
 
         -- the principal, which was raised, does not use the binder
         said_uses : occurs 0 B ≡ occurs 0 saying.right
@@ -195,17 +205,18 @@ module _ (ws : List ℕ) (used at m end : ℕ) (p q B : Term) (j : Binds ws used
           counts = let u = free_occurs 0 B in let s = said_uses in omega (arith, f.free_is, g.free_is)
 
           -- the counts differ: the variable escapes
-          pub bind_used : (from_0.free ≡ from_1.free → ⊥) → TypeFormed (bind_type at p B) end ws new (Refused variable_escapes at)
-          bind_used d =
+          pub bind_used : {r : Answer Typed Refusal} → (from_0.free ≡ from_1.free → ⊥) → told r ≡ refused variable_escapes at
+              → TypeFormed (bind_type at p B) end ws new r
+          bind_used d t =
               let n : length (encode (shift 0 (negsuc 0) B)) ≡ size B = length_shift 0 (negsuc 0) B in
               let k = j.type_words in
               let used : occurs 0 saying.right ≡ 0 → ⊥ = λ e. let c = counts in d (omega arith) in
               formed_refusal _ variable_escapes at end ws new
-              (bound_said at p B saying _ (fail _ at _ (ne_eqb (occurs 0 saying.right) 0 used)))
+              (bound_said at p B saying _ (fail _ at _ (ne_eqb (occurs 0 saying.right) 0 used))) t
               (written_kept ws new (encode (shift 0 (negsuc 0) B)) 0 front_words (omega arith) shifted_words (omega arith))
 
           -- they are the same: the type is lowered
-          pub bind_unused : from_0.free ≡ from_1.free → TypeFormed (bind_type at p B) end ws new (Typed from_0.words end)
+          pub bind_unused : from_0.free ≡ from_1.free → TypeFormed (bind_type at p B) end ws new (Ok (record { words = from_0.words; end = end }))
           unfolding shift
           bind_unused d =
               let low : shift 0 (negsuc 0) B ≡ Says p (lower saying.right) = ap lower saying.is
@@ -218,3 +229,22 @@ module _ (ws : List ℕ) (used at m end : ℕ) (p q B : Term) (j : Binds ws used
               (bound_said at p B saying _ (pass variable_escapes at (eq-eqb (occurs 0 saying.right) 0 unused) (measured_fits at _ small)))
               (g.words_are ∙ sym z) small (inl (subst Plain low (plain_lower 0 B said_at.plain))) refl
               (shifted_words ∙ ap (λ (u : Term). written_at ws 0 (encode u)) low)
+
+-- the numbers of the entry of a Bind
+pub record Sizes (ws : List ℕ) (used p q : ℕ) : Type 0 where
+  pub total : get_or ws (length ws - used) 0 ≡ entry_head + (1 + p + q)
+  pub kept : get_or ws (length ws - used + 2) 0 ≡ q
+  pub small : 1 + p + q ≤ most_type_words
+  pub inside : length ws - used + entry_head + (1 + p) ≤ length ws
+  pub some : 1 ≤ p
+  pub room : used + front_words ≤ length ws
+
+pub sizes : {ws : List ℕ} {used m : ℕ} (b : Bindable ws used m) → Sizes ws used (size b.p) (size b.q)
+sizes {ws} {used} {m} b = record {
+  total = total_is 0 0 b.binds;
+  kept = kept_size 0 0 b.binds;
+  small = b.small_kept;
+  inside = kept_inside 0 0 b.binds;
+  some = size_pos b.p;
+  room = b.room;
+}

@@ -1,11 +1,13 @@
--- What check hands back: the type's words, a number and a place.
+-- What check hands back: the type's words, as a part of the workspace, or the refusal.
 use Rattle.std.specs.Prelude.{ℕ, ◌≡◌, List}
-use Rattle.logic.specs.Result.{Result, number_of, place_of}
-use Rattle.logic.specs.Term.{Term}
-use Rattle.register.specs.Calls.{type_of}
+use Rattle.logic.specs.Answer.{reason_number}
+use Rattle.logic.specs.Result.{Result, ok, refused, ◌>>=◌}
+use Rattle.logic.specs.Term.{Term, encode}
+use Rattle.logic.specs.declared.refusal.Refusal.{Refusal}
 
--- what check hands back: a part of the workspace that holds exactly the type's words, a number and a place
-pub record HandedAs (o : Result Term) (part : List ℕ) (number place : ℕ) : Type 0 where
-  pub part_is : part ≡ type_of o
-  pub number_is : number ≡ number_of o
-  pub place_is : place ≡ place_of o
+-- there is a type, and it has exactly these words
+abbrev pub TypeIs : Result Term → List ℕ → Type 0
+TypeIs o words = (o >>= λ A. ok (encode A)) ≡ ok words
+
+abbrev pub RefusedBy : Result Term → Refusal → Type 0
+RefusedBy o e = o ≡ refused (reason_number e.reason) e.place

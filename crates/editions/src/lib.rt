@@ -3,7 +3,7 @@
 #![tactic(auto)]
 
 // Document 01's edition, in which a variable counts binders, and the one in which it has a name.
-#[derive(Clone, Copy, Drop)]
+#[derive(Clone, Copy, Debug, PartialEq, Eq)]
 pub enum Edition {
     Counts,
     Names,

@@ -21,6 +21,7 @@ const V2: u32 = VARIABLE_0 + 2;
 
 // The proof that an extract is permitted for an operation: the rule is by the desk and on the constant q, the statement
 // is App Cq of the extract, by the principal.
+#[tactic(auto, unfolding(logic::specs::Term::encode))]
 pub fn proof_words(operation: u32, q: u32, extract: u32, principal: u32) -> [u32; PROOF_WORDS]
     requires { (operation < most_operations) × (q < payloads) × (extract < payloads) × (principal < payloads) }
     ensures { result ≡ encode (proof_form operation q extract principal) }

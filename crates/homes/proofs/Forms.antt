@@ -1,85 +1,85 @@
--- The tests of the form, one word or one row at a time.
-use Prim.Native.Nat.{ℕ, ◌+◌, ◌*◌, ◌≤◌, ◌<◌}
+-- The tests of the form.
+use Prim.Native.Nat.{ℕ, zero, suc, ◌+◌, ◌*◌, ◌/◌, ◌%◌, ◌≤◌, ◌<◌}
+use native.Mathlib.Numerals.{add-one}
 use native.Mathlib.Omega.{arith}
-use mathlib.Core.Path.{◌≡◌, refl, sym, ap, ◌∙◌}
-use mathlib.Core.Bool.{Bool, true, false, ◌&&◌, not}
+use mathlib.Core.Path.{◌≡◌, refl, sym, ap, ap₂, ◌∙◌}
+use mathlib.Core.Bool.{Bool, true, false, ◌&&◌}
 use mathlib.Core.List.{List, [], ◌∷◌}
-use lib.Dec.{leb, eqb}
-use lib.ListN.{length, drop, get_or, drop_of_length-le}
-use borrow.Author.Tests.{le-leb, lt-leb, eq-eqb, ne_eqb, eqb-true, eqb-false}
-use Rattle.words.proofs.Lists.{drop_one}
+use lib.Dec.{ltb}
+use lib.ListN.{length, get_or}
+use borrow.Author.Tests.{ltb-true, ltb-false, le-leb, lt-leb}
+use Rattle.std.specs.Bool.{MatchBool}
+use Rattle.std.specs.List.{IsAllAdjacentAnswer, AllWithin, HoldsAt}
+use Rattle.std.specs.Simd.{first_chunks}
 use Rattle.homes.specs.Homes.{most_homes, most_rows, no_survey, rising, rows, formed}
+use Rattle.homes.proofs.InForm.{pair_behind, next_one, rises, rising_so, is_table, rows_so}
 
-pub drop_two : (ws : List ℕ) (j : ℕ) → j + 1 < length ws → drop j ws ≡ get_or ws j 0 ∷ get_or ws (j + 1) 0 ∷ drop (j + 2) ws
-drop_two ws j h =
-    let e : j + 1 + 1 ≡ j + 2 = omega arith in
-    drop_one ws j (omega arith)
-    ∙ ap (λ (l : List ℕ). get_or ws j 0 ∷ l) (drop_one ws (j + 1) h ∙ ap (λ (k : ℕ). get_or ws (j + 1) 0 ∷ drop k ws) e)
+-- numbers that are each below the next rise
+rise_all : (f : ℕ → ℕ) (n : ℕ) → ((k : ℕ) → k + 1 < n → f k < f (k + 1)) → (i j : ℕ) → i < j → j < n → f i < f j
+rise_all f n next i zero l m = absurd (omega arith)
+rise_all f n next i (suc j) l m = go (ltb i j) refl (λ e. rise_all f n next i j e (omega arith)) (next j (omega arith))
+  where
+    go : (b : Bool) → ltb i j ≡ b → (i < j → f i < f j) → f j < f (j + 1) → f i < f (suc j)
+    go true e before here = omega (arith, before (ltb-true i j e), ap f (add-one j))
+    go false e before here =
+        let s = ltb-false i j e in
+        let q : i ≡ j = omega arith in
+        omega (arith, ap f (add-one j), ap f q)
 
-pub drop_last : (ws : List ℕ) (j : ℕ) → j + 1 ≡ length ws → drop j ws ≡ get_or ws j 0 ∷ []
-drop_last ws j h =
-    drop_one ws j (omega arith) ∙ ap (λ (l : List ℕ). get_or ws j 0 ∷ l) (drop_of_length-le ws {i = j + 1} (omega arith))
+-- what is true or false as b is
+not_so : (b : Bool) → (b ≡ true → ⊥) → false ≡ b
+not_so true n = absurd (n refl)
+not_so false n = refl
 
--- ---- the list: `same` says that the homes from i on are left, each at least `least`
+pub homes_decided : (hs : List ℕ) (r : Bool) → IsAllAdjacentAnswer (λ x y b. b ≡ ltb x y) hs r → r ≡ rising 0 hs
+homes_decided hs true a =
+    sym (rising_so 0 hs (λ k l. omega arith) (rise_all (λ k. get_or hs k 0) (length hs) (λ k l. ltb-true _ _ (sym (a k 0 l)))))
+homes_decided hs false (k, l, e) =
+    not_so (rising 0 hs) (λ q. let m = rises 0 hs q k (k + 1) (omega arith) l in omega (arith, ltb-false _ _ (sym (e 0))))
 
-module _ (hs : List ℕ) (least i : ℕ) (same : rising 0 hs ≡ rising least (drop i hs)) where
-  turn : i < length hs → rising 0 hs ≡ (leb least (get_or hs i 0) && rising (get_or hs i 0 + 1) (drop (i + 1) hs))
-  unfolding rising
-  turn h = same ∙ ap (rising least) (drop_one hs i h)
+-- ---- the table, whose rows are ws
 
-  pub home_falls : i < length hs → get_or hs i 0 < least → false ≡ rising 0 hs
-  home_falls h l = sym (turn h ∙ ap (λ (b : Bool). b && rising (get_or hs i 0 + 1) (drop (i + 1) hs)) (lt-leb least (get_or hs i 0) l))
+chunk_at : (t : List ℕ) (n k : ℕ) → k < n → 2 * n ≤ length t → get_or (first_chunks 2 n t) k [] ≡ get_or t (2 * k) 0 ∷ get_or t (2 * k + 1) 0 ∷ []
+chunk_at [] n k h l = absurd (omega arith)
+chunk_at (x ∷ []) n k h l = absurd (omega arith)
+chunk_at (x ∷ c ∷ t) zero k h l = absurd (omega arith)
+chunk_at (x ∷ c ∷ t) (suc n) zero h l = refl
+chunk_at (x ∷ c ∷ t) (suc n) (suc k) h l =
+    chunk_at t n k (omega arith) (omega arith) ∙ ap₂ (λ (a b : ℕ). a ∷ b ∷ []) (sym (pair_behind t x c k)) (sym (next_one t x c k))
 
-  pub home_rises : i < length hs → least ≤ get_or hs i 0 → rising 0 hs ≡ rising (get_or hs i 0 + 1) (drop (i + 1) hs)
-  home_rises h l = turn h ∙ ap (λ (b : Bool). b && rising (get_or hs i 0 + 1) (drop (i + 1) hs)) (le-leb least (get_or hs i 0) l)
+pub rows_odd : (t : List ℕ) → (length t % 2 ≡ 0 → ⊥) → false ≡ rows 0 t
+rows_odd t n = not_so (rows 0 t) (λ q. let w = (is_table t q).whole in n (omega arith))
 
-  pub homes_end : length hs ≤ i → true ≡ rising 0 hs
-  unfolding rising
-  homes_end h = sym (same ∙ ap (rising least) (drop_of_length-le hs {i = i} h))
+module _ (t : List ℕ) (ws : List (List ℕ)) (front : ws ≡ first_chunks 2 (length t / 2) t) (len : length ws ≡ length t / 2) where
+  row_at : (k : ℕ) → k < length ws → get_or ws k [] ≡ get_or t (2 * k) 0 ∷ get_or t (2 * k + 1) 0 ∷ []
+  row_at k h = ap (λ (l : List (List ℕ)). get_or l k []) front ∙ chunk_at t (length t / 2) k (omega arith) (omega arith)
 
--- ---- the table, likewise
+  home_at : (k : ℕ) → k < length ws → get_or (get_or ws k []) 0 0 ≡ get_or t (2 * k) 0
+  home_at k h = ap (λ (l : List ℕ). get_or l 0 0) (row_at k h)
 
-module _ (t : List ℕ) (least j : ℕ) (same : rows 0 t ≡ rows least (drop j t)) where
-  abbrev rest : Bool
-  rest = rows (get_or t j 0 + 1) (drop (j + 2) t)
+  code_at : (k : ℕ) → k < length ws → get_or (get_or ws k []) 1 0 ≡ get_or t (2 * k + 1) 0
+  code_at k h = ap (λ (l : List ℕ). get_or l 1 0) (row_at k h)
 
-  row_turn : j + 1 < length t → rows 0 t ≡ (leb least (get_or t j 0) && not (eqb (get_or t (j + 1) 0) no_survey) && rest)
-  unfolding rows
-  row_turn h = same ∙ ap (rows least) (drop_two t j h)
+  abbrev Sorted : Bool → Type 0
+  Sorted s = IsAllAdjacentAnswer (λ x y b. b ≡ ltb (get_or x 0 0) (get_or y 0 0)) ws s
 
-  pub row_falls : j + 1 < length t → get_or t j 0 < least → false ≡ rows 0 t
-  row_falls h l = sym (row_turn h ∙ ap (λ (b : Bool). b && not (eqb (get_or t (j + 1) 0) no_survey) && rest) (lt-leb least (get_or t j 0) l))
+  pub rows_fall : (s : Bool) → Sorted s → s ≡ false → s ≡ rows 0 t
+  rows_fall true a e = absurd (cc)
+  rows_fall false (k, l, e) r = not_so (rows 0 t) (λ q.
+      let f = is_table t q in
+      omega (arith, f.whole, f.rise k (k + 1), ltb-false _ _ (sym (e [])), home_at k (omega arith), home_at (k + 1) l))
 
-  pub row_without : j + 1 < length t → least ≤ get_or t j 0 → get_or t (j + 1) 0 ≡ no_survey → false ≡ rows 0 t
-  row_without h l e =
-      sym (row_turn h ∙ ap (λ (b : Bool). b && not (eqb (get_or t (j + 1) 0) no_survey) && rest) (le-leb least (get_or t j 0) l)
-      ∙ ap (λ (b : Bool). not b && rest) (eq-eqb (get_or t (j + 1) 0) no_survey e))
-
-  pub row_rises : j + 1 < length t → least ≤ get_or t j 0 → (get_or t (j + 1) 0 ≡ no_survey → ⊥) → rows 0 t ≡ rest
-  row_rises h l e =
-      row_turn h ∙ ap (λ (b : Bool). b && not (eqb (get_or t (j + 1) 0) no_survey) && rest) (le-leb least (get_or t j 0) l)
-      ∙ ap (λ (b : Bool). not b && rest) (ne_eqb (get_or t (j + 1) 0) no_survey e)
-
-  rows_whole : j ≡ length t → true ≡ rows 0 t
-  unfolding rows
-  rows_whole e = sym (same ∙ ap (rows least) (drop_of_length-le t {i = j} (omega arith)))
-
-  rows_odd : j + 1 ≡ length t → false ≡ rows 0 t
-  unfolding rows
-  rows_odd e = sym (same ∙ ap (rows least) (drop_last t j e))
-
-  pub rows_end : length t ≤ j + 1 → j ≤ length t → eqb j (length t) ≡ rows 0 t
-  rows_end h l = go (eqb j (length t)) refl
-    where
-      go : (b : Bool) → eqb j (length t) ≡ b → eqb j (length t) ≡ rows 0 t
-      go true e = e ∙ rows_whole (eqb-true j (length t) e)
-      go false e = let n = eqb-false j (length t) e in e ∙ rows_odd (omega arith)
-
-pub rising_start : (hs : List ℕ) → rising 0 hs ≡ rising 0 (drop 0 hs)
-rising_start hs = refl
-
-pub rows_start : (t : List ℕ) → rows 0 t ≡ rows 0 (drop 0 t)
-rows_start t = refl
+  pub rows_decided : (s a : Bool) → length t % 2 ≡ 0 → Sorted s → s ≡ true →
+      MatchBool a (AllWithin (λ x. get_or x 1 0 ≡ no_survey → ⊥) ws 0 (length ws)) ((k : ℕ) × (k < length ws) × HoldsAt (λ x. get_or x 1 0 ≡ no_survey) ws k) →
+      a ≡ rows 0 t
+  rows_decided false a h s e m = absurd (cc)
+  rows_decided true true h s e m =
+      sym (rows_so 0 t (length t / 2) (omega arith) (λ k l. omega arith)
+      (rise_all (λ k. get_or t (2 * k) 0) (length t / 2) (λ k l.
+      omega (arith, ltb-true _ _ (sym (s k [] (omega arith))), home_at k (omega arith), home_at (k + 1) (omega arith))))
+      (λ k l q. m k [] (omega arith) (omega arith) (code_at k (omega arith) ∙ q)))
+  rows_decided true false h s e (k, l, q) =
+      not_so (rows 0 t) (λ r. let f = is_table t r in f.codes k (omega (arith, f.whole)) (sym (code_at k l) ∙ q []))
 
 -- ---- the whole form
 
@@ -96,12 +96,6 @@ module _ (hs t : List ℕ) (room : ℕ) where
   unfolding formed
   short_output a b h = sym (rw (le-leb (length hs) most_homes a, le-leb (length t) (2 * most_rows) b, lt-leb (2 * length hs) room h) refl)
 
-  lists_decide : length hs ≤ most_homes → length t ≤ 2 * most_rows → 2 * length hs ≤ room → (rising 0 hs && rows 0 t) ≡ formed hs t room
+  pub lists_decide : length hs ≤ most_homes → length t ≤ 2 * most_rows → 2 * length hs ≤ room → (rising 0 hs && rows 0 t) ≡ formed hs t room
   unfolding formed
   lists_decide a b c = sym (rw (le-leb (length hs) most_homes a, le-leb (length t) (2 * most_rows) b, le-leb (2 * length hs) room c) refl)
-
-  pub homes_decide : length hs ≤ most_homes → length t ≤ 2 * most_rows → 2 * length hs ≤ room → rising 0 hs ≡ false → false ≡ formed hs t room
-  homes_decide a b c e = sym (ap (λ (x : Bool). x && rows 0 t) e) ∙ lists_decide a b c
-
-  pub rows_decide : length hs ≤ most_homes → length t ≤ 2 * most_rows → 2 * length hs ≤ room → rising 0 hs ≡ true → rows 0 t ≡ formed hs t room
-  rows_decide a b c e = sym (ap (λ (x : Bool). x && rows 0 t) e) ∙ lists_decide a b c

@@ -27,13 +27,13 @@ homes_least least [] k e l = absurd (omega arith)
 homes_least least (h ∷ hs) zero e l = (home_facts least h hs e).low
 homes_least least (h ∷ hs) (suc k) e l = let f = home_facts least h hs e in omega (arith, f.low, homes_least (h + 1) hs k f.rest (omega arith))
 
-rises : (least : ℕ) (hs : List ℕ) → rising least hs ≡ true → Rising hs
+pub rises : (least : ℕ) (hs : List ℕ) → rising least hs ≡ true → Rising hs
 rises least [] e i j l m = absurd (omega arith)
 rises least (h ∷ hs) e i zero l m = absurd (omega arith)
 rises least (h ∷ hs) e zero (suc j) l m = omega (arith, homes_least (h + 1) hs j (home_facts least h hs e).rest (omega arith))
 rises least (h ∷ hs) e (suc i) (suc j) l m = rises (h + 1) hs (home_facts least h hs e).rest i j (omega arith) (omega arith)
 
-rising_so : (least : ℕ) (hs : List ℕ) → ((k : ℕ) → k < length hs → least ≤ get_or hs k 0) → Rising hs → rising least hs ≡ true
+pub rising_so : (least : ℕ) (hs : List ℕ) → ((k : ℕ) → k < length hs → least ≤ get_or hs k 0) → Rising hs → rising least hs ≡ true
 unfolding rising
 rising_so least [] low r = refl
 rising_so least (h ∷ hs) low r =
@@ -73,13 +73,13 @@ rows_rise least (h ∷ c ∷ t) e zero (suc j) l m = omega (arith, rows_least (h
 rows_rise least (h ∷ c ∷ t) e (suc i) (suc j) l m =
     omega (arith, rows_rise (h + 1) t (row_facts least h c t e).rest i j (omega arith) (omega arith), pair_behind t h c i, pair_behind t h c j)
 
-is_table : (t : List ℕ) → rows 0 t ≡ true → Table t
+pub is_table : (t : List ℕ) → rows 0 t ≡ true → Table t
 is_table t e =
     let p = pairs 0 t e in
     let w = p.whole in
     record { count = p.count; whole = w; rise = λ i j l m. rows_rise 0 t e i j l (omega arith); codes = λ i l. rows_code 0 t i e (omega arith) }
 
-rows_so : (least : ℕ) (t : List ℕ) (n : ℕ) → length t ≡ 2 * n → ((k : ℕ) → k < n → least ≤ get_or t (2 * k) 0) →
+pub rows_so : (least : ℕ) (t : List ℕ) (n : ℕ) → length t ≡ 2 * n → ((k : ℕ) → k < n → least ≤ get_or t (2 * k) 0) →
     ((i j : ℕ) → i < j → j < n → get_or t (2 * i) 0 < get_or t (2 * j) 0) → ((i : ℕ) → i < n → get_or t (2 * i + 1) 0 ≢ no_survey) → rows least t ≡ true
 unfolding rows
 rows_so least [] n w low r c = refl

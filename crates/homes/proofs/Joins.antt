@@ -9,9 +9,7 @@ use lib.ListN.{length}
 use borrow.Author.Tests.{leb-true, le-leb, ltb-true, ltb-false, ne_eqb}
 use Rattle.logic.proofs.Basics.{clash}
 use Rattle.logic.proofs.Results.{both_true, true_both}
-use Rattle.logic.specs.Refusals.{out_of_form}
-use Rattle.words.specs.Place.{written_at}
-use Rattle.homes.specs.Homes.{most_homes, most_rows, no_survey, rising, rows, formed, survey_code, joined, write_call, Wrote, here}
+use Rattle.homes.specs.Homes.{most_homes, most_rows, no_survey, rising, rows, formed, survey_code, joined}
 
 -- ---- the pass: rows of lower homes are passed over, and then the row that stands there decides
 
@@ -19,6 +17,12 @@ unfoldable pub beyond : ℕ → List ℕ → List ℕ
 beyond h [] = []
 beyond h (x ∷ []) = x ∷ []
 beyond h (x ∷ c ∷ t) = cond (ltb x h) (beyond h t) (x ∷ c ∷ t)
+
+-- the code of the first row, if it is of this home
+unfoldable pub here : ℕ → List ℕ → ℕ
+here h [] = no_survey
+here h (x ∷ []) = no_survey
+here h (x ∷ c ∷ t) = cond (eqb x h) c no_survey
 
 unfoldable pub walked : (hs t : List ℕ) → List ℕ
 walked [] t = []
@@ -162,12 +166,3 @@ formed_facts hs t room e =
       rise = b.1;
       table = a.1;
     }
-
-pub write_refused : (hs t old : List ℕ) → formed hs t (length old) ≡ false → Wrote (write_call hs t (length old)) old old out_of_form
-unfolding write_call
-write_refused hs t old e = rw e record { number = refl; output = refl }
-
-pub write_done : (hs t old new : List ℕ) → formed hs t (length old) ≡ true → new ≡ written_at old 0 (joined hs t) →
-    Wrote (write_call hs t (length old)) old new 0
-unfolding write_call
-write_done hs t old new e q = rw e record { number = refl; output = q }

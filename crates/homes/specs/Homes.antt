@@ -1,8 +1,11 @@
 -- The writing step of an extract: each home of a list with its survey code. Sentences in quotation marks are
 -- document 02's, slip 3.
-use Rattle.std.specs.Prelude.{ℕ, ◌+◌, ◌*◌, ◌≡◌, Bool, true, false, ◌&&◌, not, cond, List, [], ◌∷◌, leb, ltb, eqb, length}
+use Rattle.std.specs.Prelude.{Result as Answer}
+use Rattle.std.specs.Prelude.{ℕ, ◌+◌, ◌*◌, ◌≡◌, Bool, true, false, ◌&&◌, not, cond, List, [], ◌∷◌, leb, eqb, length}
 use Rattle.logic.specs.Refusals.{out_of_form}
-use Rattle.logic.specs.Result.{Result, ok, number_of, ◌>>◌, require}
+use Rattle.logic.specs.Answer.{answer}
+use Rattle.logic.specs.Result.{Result, ok, without_value, ◌>>◌, require}
+use Rattle.logic.specs.declared.refusal.Refusal.{Refusal}
 use Rattle.words.specs.Place.{after_write}
 
 -- "a list of homes (u32, at most 1,024, strictly rising)"
@@ -52,21 +55,7 @@ joined (h ∷ hs) t = h ∷ survey_code h t ∷ joined hs t
 unfoldable pub write_call : (hs t : List ℕ) (room : ℕ) → Result (List ℕ)
 write_call hs t room = require (formed hs t room) out_of_form 0 >> ok (joined hs t)
 
--- the answer's number, and the output afterwards: "output past the last home is unchanged"
-pub record Wrote (o : Result (List ℕ)) (old new : List ℕ) (r : ℕ) : Type 0 where
-  pub number : r ≡ number_of o
+-- the answer, and the output afterwards: "output past the last home is unchanged"
+pub record Wrote (o : Result (List ℕ)) (old new : List ℕ) (r : Answer (Unit {0}) Refusal) : Type 0 where
+  pub answered : answer r ≡ without_value o
   pub output : new ≡ after_write o old
-
--- ---- the first row of what is left of a table
-
--- it is of a lower home
-unfoldable pub home_passed : ℕ → List ℕ → Bool
-home_passed h [] = false
-home_passed h (x ∷ []) = false
-home_passed h (x ∷ c ∷ t) = ltb x h
-
--- its code, if it is of this home
-unfoldable pub here : ℕ → List ℕ → ℕ
-here h [] = no_survey
-here h (x ∷ []) = no_survey
-here h (x ∷ c ∷ t) = cond (eqb x h) c no_survey

@@ -1,4 +1,4 @@
 -- Laws of the answers that a host program gets.
 pub mod Codes
-pub mod Starts
 pub mod Paper
+pub mod Starts

@@ -9,13 +9,12 @@ use lib.ListN.{length, take, drop, get_elem?, length-append, take-append-drop}
 use lib.Seq.{take_at}
 use borrow.Author.Tests.{leb-true}
 use Rattle.logic.specs.Limits.{most_register}
-use Rattle.logic.specs.Refusals.{past_last_record, last_refusal}
-use Rattle.logic.specs.Result.{Result, ok, refused, ◌>>=◌, ◌>>◌, known, number_of}
+use Rattle.logic.specs.Refusals.{past_last_record}
+use Rattle.logic.specs.Result.{Result, ok, refused, ◌>>=◌, ◌>>◌, known}
 use Rattle.logic.proofs.Basics.{clash}
 use Rattle.logic.proofs.Results.{bound, tested, both_true}
 use Rattle.register.specs.Records.{Record, Content, record_head, header, words_of, used_by, register_content}
 use Rattle.register.specs.Calls.{read_call, body_of, kind_of}
-use Rattle.register.proofs.Bounds.{read_bound}
 use Rattle.register.proofs.Words.{words_append}
 use Rattle.records.specs.Items.{RecordsAt}
 use Rattle.read_call.specs.Read.{Reachable}
@@ -52,45 +51,26 @@ pub record Present (reg : List ℕ) (k : ℕ) : Type 0 where
   pub not_shorter : header ≤ length reg
   pub not_longer : length reg ≤ most_register
 
-module _ (reg : List ℕ) (k m : ℕ) (n : m ≡ number_of (read_call reg k)) where
-  refused_is : (m ≡ 0 → ⊥) → read_call reg k ≡ refused m 0
-  refused_is ne = go (read_call reg k) refl n
-    where
-      go : (x : Result Record) → read_call reg k ≡ x → m ≡ number_of x → x ≡ refused m 0
-      go (ok r) e f = absurd (ne f)
-      go (refused m' p) e f = let (l, z) = read_bound reg k e in ap₂ refused (sym f) z
+-- a refusal hands back nothing
+pub not_read : {m p : ℕ} (reg : List ℕ) (k : ℕ) → read_call reg k ≡ refused m p → (code : ℕ) → code ≡ m * number_unit + p → ReadTo reg k 0 0 0 code
+unfolding body_of kind_of
+not_read reg k r code c = record {
+  answer = c ∙ sym (ap code_of r);
+  kind_is = sym (ap kind_of r);
+  start_is = sym (ap (λ (x : Result Record). start_by k x (register_content reg)) r);
+  words_are = sym (ap (λ (x : Result Record). length (body_of x)) r);
+  body = sym (ap body_of r);
+}
 
-  pub number_fits : (m ≡ 0 → ⊥) → m ≤ last_refusal
-  number_fits ne = omega (arith, (read_bound reg k (refused_is ne)).0.1)
-
-  pub not_read : (kind : ℕ) (body : List ℕ) (code : ℕ) → (m ≡ 0 → ⊥) → kind ≡ kind_of (read_call reg k) → body ≡ body_of (read_call reg k) →
-      code ≡ m * number_unit + 0 → ReadTo reg k kind 0 (length body) code
-  unfolding body_of
-  not_read kind body code ne e b c =
-      let r = refused_is ne in
-      let z : body ≡ [] = b ∙ ap body_of r in
-      record {
-        answer = c ∙ sym (ap code_of r);
-        kind_is = e;
-        start_is = sym (ap (λ (x : Result Record). start_by k x (register_content reg)) r);
-        words_are = ap length b;
-        body = ap (λ (l : List ℕ). take (length l) reg) z ∙ sym z ∙ b;
-      }
-
-  pub present : m ≡ 0 → Present reg k
-  present z = go (read_call reg k) refl n
-    where
-      go : (x : Result Record) → read_call reg k ≡ x → m ≡ number_of x → Present reg k
-      go (refused m' p) e f = let (l, q) = read_bound reg k e in absurd (omega arith)
-      go (ok r) e f =
-          tested (leb header (length reg) && leb (length reg) most_register) _ _ _ e λ range e₁. bound (register_content reg) _ e₁ λ c u e₂.
-          let (low, high) = both_true (leb header (length reg)) (leb (length reg) most_register) range in
-          record {
-            among = record { found = c; reads = u; passed = omega (arith, entry_within c.records k e₂) };
-            not_shorter =
-                leb-true header (length reg) low;
-            not_longer = leb-true (length reg) most_register high;
-          }
+pub present : {r : Record} (reg : List ℕ) (k : ℕ) → read_call reg k ≡ ok r → Present reg k
+present reg k e =
+    tested (leb header (length reg) && leb (length reg) most_register) _ _ _ e λ range e₁. bound (register_content reg) _ e₁ λ c u e₂.
+    let (low, high) = both_true (leb header (length reg)) (leb (length reg) most_register) range in
+    record {
+      among = record { found = c; reads = u; passed = omega (arith, entry_within c.records k e₂) };
+      not_shorter = leb-true header (length reg) low;
+      not_longer = leb-true (length reg) most_register high;
+    }
 
 module _ (reg : List ℕ) (k : ℕ) (P : Present reg k) (at : ℕ) (R : Reached reg at k) where
   pub start_fits : at + record_head ≤ length reg

@@ -10,45 +10,63 @@ ghost use Rattle.shared_tests.specs.Shared.{lent_of};
 ghost use Rattle.editions.specs.Convert.{from_named, to_named};
 ghost use Rattle.uses.specs.Uses.{uses_call};
 ghost use Rattle.reduction.specs.Call.{simplify_call};
-ghost use Rattle.words.specs.Verdict.{verdict_answer};
-ghost use Rattle.host.specs.Answers.{number_unit, code_of, Fits, Tellable};
+ghost use Rattle.logic.specs.Answer.{reason_number, answer as told};
+ghost use Rattle.host.specs.Answers.{number_unit, code_of, count_of, Fits, Tellable};
 ghost use Rattle.host.specs.Answers.{OpenedTo, MarkedTo, ReturnedTo, SaidTo, RequestedTo, BatchedTo, ExtractedTo, ConvertedTo, CountedTo};
 ghost use Rattle.host.specs.Answers.{SimplifiedTo, TypedTo, ReadTo};
 
 use batch::batch;
-use batch_tests::Batched;
 use check_call::{check, judge};
+use logic::refusal::Refusal;
 use marks::{mark, return_to};
-use named::convert::{Conversion, from_named, to_named};
+use named::convert::{from_named, to_named};
 use open::open;
 use read_call::{place, read};
+use records::entry::{Ask, Statement};
 use records::format::HEAD;
 use request::request;
-use rules::derivation::Derivation;
 use say::{Said, say};
-use simplify::reduce::Simplification;
+use shared_tests::signed::Signature;
+use simplify::reduce::Simplified;
 use simplify::simplify;
-use uses::{Counted, uses};
-use words::verdict::Verdict;
+use uses::uses;
 
 // What a refusal's number is multiplied by.
 const NUMBER_UNIT: u64 = 4294967296;
 
-fn code(number: u32, place: usize) -> u64
-    requires { Fits number place }
-    ensures { result ≡ number * number_unit + place }
+fn code(refusal: Refusal) -> u64
+    requires { Fits (reason_number refusal.reason) refusal.place }
+    ensures { result ≡ reason_number refusal.reason * number_unit + refusal.place }
 {
-    (number as u64) * NUMBER_UNIT + (place as u64)
+    u64::from(u32::from(refusal.reason)) * NUMBER_UNIT + refusal.place as u64
 }
 
-// A verdict as one number.
-fn answer(verdict: Verdict) -> u64
-    requires { Tellable (verdict_answer verdict) }
-    ensures { result ≡ code_of (verdict_answer verdict) }
+// What a call answers that gives no value, as one number.
+fn answer(done: Result<(), Refusal>) -> u64
+    requires { Tellable (told done) }
+    ensures { result ≡ code_of (told done) }
 {
-    match verdict {
-        Verdict::Passed => 0,
-        Verdict::Refused { number, place } => code(number, place),
+    match done {
+        Ok(()) => 0,
+        Err(refusal) => code(refusal),
+    }
+}
+
+// What a call answers that gives a count: that is put into `count`, 0 where refused.
+fn answer_count(counted: Result<usize, Refusal>, count: &mut usize) -> u64
+    requires { Tellable (told counted) }
+    ensures answer { result ≡ code_of (told counted) }
+    ensures count { count.new ≡ count_of (told counted) }
+{
+    match counted {
+        Ok(n) => {
+            *count = n;
+            0
+        }
+        Err(refusal) => {
+            *count = 0;
+            code(refusal)
+        }
     }
 }
 
@@ -66,8 +84,11 @@ pub extern "C" fn aura0_open(
     ensures { OpenedTo (lent_of signature.now n workspace.old) register.old marks.old mode
         rules.now register.new marks.new result }
 {
-    let verdict = open(signature, n, mode, register, marks, rules, workspace);
-    answer(verdict)
+    let signature = Signature {
+        list: signature,
+        operations: n,
+    };
+    answer(open(signature, mode, register, marks, rules, workspace))
 }
 
 // Mark: a mark set at the end of a trial register's records.
@@ -75,8 +96,7 @@ pub extern "C" fn aura0_open(
 pub extern "C" fn aura0_mark(register: &[u32], marks: &mut [u32], number: u32) -> u64
     ensures { MarkedTo register.now marks.old number marks.new result }
 {
-    let verdict = mark(register, marks, number);
-    answer(verdict)
+    answer(mark(register, marks, number))
 }
 
 // Return: a trial register brought back to a mark.
@@ -84,8 +104,7 @@ pub extern "C" fn aura0_mark(register: &[u32], marks: &mut [u32], number: u32) -
 pub extern "C" fn aura0_return(register: &mut [u32], marks: &mut [u32], number: u32) -> u64
     ensures { ReturnedTo register.old marks.old number register.new marks.new result }
 {
-    let verdict = return_to(register, marks, number);
-    answer(verdict)
+    answer(return_to(register, marks, number))
 }
 
 // Say: `added` is 1 where a record was added, else 0.
@@ -105,29 +124,28 @@ pub extern "C" fn aura0_say(
     ensures { SaidTo (lent_of signature.now n workspace.old) register.old day
         (statement_of principal first last proposition.now) register.new added.new result }
 {
-    let said = say(
-        signature,
-        n,
-        register,
-        day,
+    let signature = Signature {
+        list: signature,
+        operations: n,
+    };
+    let statement = Statement {
         principal,
         first,
         last,
-        proposition,
-        workspace,
-    );
-    match said {
-        Said::Added => {
+        words: proposition,
+    };
+    match say(signature, register, day, statement, workspace) {
+        Ok(Said::Added) => {
             *added = 1;
             0
         }
-        Said::Held => {
+        Ok(Said::Held) => {
             *added = 0;
             0
         }
-        Said::Refused { number, place } => {
+        Err(refusal) => {
             *added = 0;
-            code(number, place)
+            code(refusal)
         }
     }
 }
@@ -148,10 +166,18 @@ pub extern "C" fn aura0_request(
     ensures { RequestedTo (lent_of signature.now n workspace.old) register.old
         (ask_of operation extract delivery day proof.now) register.new result }
 {
-    let verdict = request(
-        signature, n, register, day, operation, extract, delivery, proof, workspace,
-    );
-    answer(verdict)
+    let signature = Signature {
+        list: signature,
+        operations: n,
+    };
+    let ask = Ask {
+        operation,
+        extract,
+        delivery,
+        day,
+        proof,
+    };
+    answer(request(signature, register, ask, workspace))
 }
 
 // Batch: `index` is that of the item refused, 0 where all are granted.
@@ -168,19 +194,18 @@ pub extern "C" fn aura0_batch(
     ensures { BatchedTo (lent_of signature.now n workspace.old) register.old day
         items.now register.new index.new result }
 {
-    let batched = batch(signature, n, register, day, items, workspace);
-    match batched {
-        Batched::Granted => {
+    let signature = Signature {
+        list: signature,
+        operations: n,
+    };
+    match batch(signature, register, day, items, workspace) {
+        Ok(()) => {
             *index = 0;
             0
         }
-        Batched::Refused {
-            index: first,
-            number,
-            place,
-        } => {
-            *index = first as u32;
-            code(number, place)
+        Err(item) => {
+            *index = item.index as u32;
+            code(item.refusal)
         }
     }
 }
@@ -206,11 +231,18 @@ pub extern "C" fn aura0_extract(
         (ask_of operation extract delivery day proof.now) homes.now surveys.now
         register.new output.old output.new result }
 {
-    let verdict = extract::extract(
-        signature, n, register, day, operation, extract, delivery, proof, workspace, homes,
-        surveys, output,
-    );
-    answer(verdict)
+    let signature = Signature {
+        list: signature,
+        operations: n,
+    };
+    let ask = Ask {
+        operation,
+        extract,
+        delivery,
+        day,
+        proof,
+    };
+    answer(extract::extract(signature, register, ask, workspace, homes, surveys, output))
 }
 
 // Check, without the type.
@@ -226,19 +258,14 @@ pub extern "C" fn aura0_check(
     ensures { result ≡ code_of (check_call (lent_of signature.now n workspace.old)
         register.now day term.now) }
 {
-    let mut number = 0;
-    let mut at = 0;
-    check(
-        signature,
-        n,
-        register,
-        day,
-        term,
-        workspace,
-        &mut number,
-        &mut at,
-    );
-    code(number, at)
+    let signature = Signature {
+        list: signature,
+        operations: n,
+    };
+    match check(signature, register, day, term, workspace) {
+        Ok(_) => 0,
+        Err(refusal) => code(refusal),
+    }
 }
 
 // Check: the type is the first `type_words` words of the workspace.
@@ -255,15 +282,18 @@ pub extern "C" fn aura0_check_type(
     ensures { TypedTo (check_call (lent_of signature.now n workspace.old)
         register.now day term.now) workspace.new type_words.new result }
 {
-    let judged = judge(signature, n, register, day, term, workspace);
-    match judged {
-        Derivation::Typed { words, end: _ } => {
-            *type_words = words;
+    let signature = Signature {
+        list: signature,
+        operations: n,
+    };
+    match judge(signature, register, day, term, workspace) {
+        Ok(typed) => {
+            *type_words = typed.words;
             0
         }
-        Derivation::Refused { number, place } => {
+        Err(refusal) => {
             *type_words = 0;
-            code(number, place)
+            code(refusal)
         }
     }
 }
@@ -285,20 +315,25 @@ pub extern "C" fn aura0_simplify(
     ensures { SimplifiedTo (simplify_call (lent_of signature.now n workspace.old) register.now day
         term.now budget (length output.old)) output.old output.new steps.new written.new result }
 {
-    let simplified = simplify(signature, n, register, day, term, budget, output, workspace);
-    match simplified {
-        Simplification::Done {
-            steps: taken,
-            words,
-        } => {
+    let signature = Signature {
+        list: signature,
+        operations: n,
+    };
+    match simplify(signature, register, day, term, budget, output, workspace) {
+        Ok(
+            Simplified {
+                steps: taken,
+                words,
+            },
+        ) => {
             *steps = taken;
             *written = words;
             0
         }
-        Simplification::Refused { number, place } => {
+        Err(refusal) => {
             *steps = 0;
             *written = 0;
-            code(number, place)
+            code(refusal)
         }
     }
 }
@@ -309,17 +344,7 @@ pub extern "C" fn aura0_to_named(term: &[u32], output: &mut [u32], written: &mut
     ensures { ConvertedTo (to_named term.now (length output.old)) output.old output.new
         written.new result }
 {
-    let conversion = to_named(term, output);
-    match conversion {
-        Conversion::Written(words) => {
-            *written = words;
-            0
-        }
-        Conversion::Refused { number, place } => {
-            *written = 0;
-            code(number, place)
-        }
-    }
+    answer_count(to_named(term, output), written)
 }
 
 // Conversion from names, alike.
@@ -328,17 +353,7 @@ pub extern "C" fn aura0_from_named(term: &[u32], output: &mut [u32], written: &m
     ensures { ConvertedTo (from_named term.now (length output.old)) output.old output.new
         written.new result }
 {
-    let conversion = from_named(term, output);
-    match conversion {
-        Conversion::Written(count) => {
-            *written = count;
-            0
-        }
-        Conversion::Refused { number, place } => {
-            *written = 0;
-            code(number, place)
-        }
-    }
+    answer_count(from_named(term, output), written)
 }
 
 // Uses: `count` is how many variables numbered `from` or more stand free, 0 where refused.
@@ -346,20 +361,10 @@ pub extern "C" fn aura0_from_named(term: &[u32], output: &mut [u32], written: &m
 pub extern "C" fn aura0_uses(term: &[u32], from: u32, count: &mut usize) -> u64
     ensures { CountedTo (uses_call from term.now) count.new result }
 {
-    let counted = uses(term, from);
-    match counted {
-        Counted::Free(free) => {
-            *count = free;
-            0
-        }
-        Counted::Refused { number, place } => {
-            *count = 0;
-            code(number, place)
-        }
-    }
+    answer_count(uses(term, from), count)
 }
 
-// Read: the body is `words` words of the register from `start` on.
+// Read: the body is `words` words of the register from `start` on; all three are 0 where refused.
 #[unsafe(no_mangle)]
 pub extern "C" fn aura0_read(
     register: &[u32],
@@ -370,13 +375,18 @@ pub extern "C" fn aura0_read(
 ) -> u64
     ensures { ReadTo register.now «record» kind.new start.new words.new result }
 {
-    let mut number = 0;
-    let body = read(register, record, kind, &mut number);
-    *words = body.len();
-    *start = 0;
-    if number != 0 {
-        return code(number, 0);
+    match read(register, record) {
+        Ok(found) => {
+            *kind = u32::from(found.kind);
+            *start = place(register, record) + HEAD;
+            *words = found.body.len();
+            0
+        }
+        Err(refusal) => {
+            *kind = 0;
+            *start = 0;
+            *words = 0;
+            code(refusal)
+        }
     }
-    *start = place(register, record) + HEAD;
-    0
 }

@@ -1,21 +1,13 @@
 -- The items of a batch's list as the code finds them: by their places.
-use Rattle.std.specs.Prelude.{ℕ, ◌+◌, ◌-◌, ◌≤◌, List, length, take, drop, get_or}
-use Rattle.std.proofs.Math.Option.{Option, some, none}
+use Rattle.std.specs.Prelude.{ℕ, ◌+◌, ◌-◌, ◌≤◌, List, length, take, drop, get_or, Option, Some, None}
 use Rattle.register.specs.Records.{Ask, ask_of, item_head, operation_word, extract_word, delivery_word}
 use Rattle.register.specs.Batch.{NextItem, no_item, cut_item, whole_item}
-use Rattle.item_list.specs.declared.Item.{Item}
-use Rattle.item_list.specs.declared.Item.TheVariants.{NotWhole, Whole}
-
--- what each case says: where the item ends, if it is whole
-abbrev pub item_answer : Item → Option ℕ
-item_answer NotWhole = none
-item_answer (Whole end) = some end
 
 -- where the item at a place ends, if it is whole
 abbrev pub item_end : (at : ℕ) → NextItem → Option ℕ
-item_end at no_item = none
-item_end at cut_item = none
-item_end at (whole_item k rest) = some (at + item_head + length k.proof)
+item_end at no_item = None
+item_end at cut_item = None
+item_end at (whole_item k rest) = Some (at + item_head + length k.proof)
 
 -- what an item asks that stands at a place and ends at another
 abbrev pub ask_at : (day : ℕ) → List ℕ → (at end : ℕ) → Ask

@@ -3,35 +3,37 @@
 
 ghost use Rattle.std.specs.Prelude.{◌≡◌, ℕ, ◌≤◌, leb, length, drop};
 ghost use Rattle.register.specs.Batch.{most_items, items as items_of, next_item};
-ghost use Rattle.item_list.specs.Items.{item_answer, item_end};
+ghost use Rattle.records.specs.Entries.{asked};
+ghost use Rattle.item_list.specs.Items.{item_end, ask_at as ask-there, ItemWithin};
 
-use records::format::{ITEM_HEAD, ITEM_LENGTH};
+use records::entry::Ask;
+use records::format::{DELIVERY, EXTRACT, ITEM_HEAD, ITEM_LENGTH, OPERATION};
 
 // "up to 16 requests".
 pub const MOST_ITEMS: usize = 16;
 
-// What stands at a place of the list: no whole item, since the list ends there or inside it; or one, up to `end`.
-#[derive(Drop)]
-pub enum Item {
-    NotWhole,
-    Whole { end: usize },
+// Where the item at a place ends; nothing, if no whole item stands there, since the list ends there or inside it. A
+// length word past the list's end cuts its item short, whatever it says.
+pub fn item_at(items: &[u32], at: usize) -> Option<usize>
+    requires { at ≤ length items.now }
+    ensures { (day : ℕ) → result ≡ item_end at (next_item day (drop at items.now)) }
+{
+    let words = *items.get(at + ITEM_LENGTH)?;
+    let end = at + ITEM_HEAD + words as usize;
+    (end <= items.len()).then_some(end)
 }
 
-// The item at a place. A length word past the list's end cuts its item short, whatever it says.
-pub fn item_at(items: &[u32], at: usize) -> Item
-    requires { at ≤ length items.now }
-    ensures { (day : ℕ) → item_answer result ≡ item_end at (next_item day (drop at items.now)) }
+// What the item asks on a day that stands at a place and ends at another.
+pub fn ask_at(items: &[u32], day: u32, at: usize, end: usize) -> Ask<'_>
+    requires { ItemWithin items.now at end }
+    ensures { asked result ≡ ask-there day items.now at end }
 {
-    let left = items.len() - at;
-    if left < ITEM_HEAD {
-        return Item::NotWhole;
-    }
-    let words = items[at + ITEM_LENGTH] as usize;
-    if left - ITEM_HEAD < words {
-        return Item::NotWhole;
-    }
-    Item::Whole {
-        end: at + ITEM_HEAD + words,
+    Ask {
+        operation: items[at + OPERATION],
+        extract: items[at + EXTRACT],
+        delivery: items[at + DELIVERY],
+        day,
+        proof: &items[at + ITEM_HEAD..end],
     }
 }
 
@@ -40,17 +42,11 @@ pub fn few(items: &[u32]) -> bool
     ensures { (day : ℕ) → result ≡ leb (length (items_of day items.now)) most_items }
 {
     let mut at = 0;
-    let mut count = 0;
-    while at < items.len() {
-        if MOST_ITEMS <= count {
-            return false;
-        }
-        let item = item_at(items, at);
-        let Item::Whole { end } = item else {
+    for _ in 0..MOST_ITEMS {
+        let Some(end) = item_at(items, at) else {
             return true;
         };
         at = end;
-        count += 1;
     }
-    true
+    at == items.len()
 }

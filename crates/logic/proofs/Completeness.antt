@@ -10,7 +10,7 @@ use Rattle.logic.specs.Term.{Term}
 use Rattle.logic.specs.Typing.{of_prop, Has, has_prop, has_type, has_string, has_prin, has_text, has_name, has_var, has_const, has_says}
 use Rattle.logic.specs.Typing.{has_pi, has_lam, has_app, has_sign, has_ret, has_bind}
 use Rattle.logic.specs.Scope.{Signature, Context, no_binder, binder}
-use Rattle.logic.specs.Infer.{measured, infer}
+use Rattle.logic.specs.Infer.{infer}
 use Rattle.logic.specs.Measured.{Measured}
 use Rattle.logic.proofs.Results.{bind_is, pass}
 use Rattle.logic.proofs.Regularity.{said_types, stratify}

@@ -1,7 +1,7 @@
 -- Document 02, slip 2: "A function that has no Pi type, an argument of another type and a variable that escapes a Bind
 -- become separate refusals. All other broken conditions keep 11, and places don't change." What the three numbers stand
 -- for; proofs/SeparateRefusals proves it of every term, and the examples together.
-use Rattle.std.specs.Prelude.{ℕ, suc, ◌+◌, ◌≤◌, ◌≡◌, ◌⊎◌, ◌↔◌, ◌≢◌, List, [], ◌∷◌, ◌++◌}
+use Rattle.std.specs.Prelude.{ℕ, suc, ◌+◌, ◌≤◌, ◌≡◌, ◌⊎◌, ◌↔◌, ◌≢◌, List, [], ◌∷◌}
 use Rattle.logic.specs.Result.{ok, refused}
 use Rattle.logic.specs.Term.{Op, Term, var, sign, node, P, S, Const, Text, Name, Says, Pi, Lam, App, Ret, Bind, size, encode}
 use Rattle.logic.specs.Move.{raise, occurs}

@@ -2,7 +2,7 @@
 ghost use Rattle.std.specs.Prelude.{◌≡◌};
 ghost use Rattle.logic.specs.Term.{tag_of, payload_of};
 ghost use Rattle.logic.specs.Reading.{word_shape};
-ghost use Rattle.logic.specs.Kind.{shape_kind, shape_children, shape_binds};
+ghost use Rattle.logic.specs.Kind.{shape_class, shape_children, shape_binds};
 
 // A word is a tag times this, and a payload below it.
 pub const PAYLOADS: u32 = 16777216;
@@ -82,35 +82,15 @@ pub const KIND_T: u32 = TAG_KIND_T * PAYLOADS;
 
 // What a word may begin: an atom, a variable, a Sign, a node whose second child stands
 // under no binder or under one, or no term.
-pub const ATOM: u32 = 0;
-
-pub const VARIABLE: u32 = 1;
-
-pub const SIGN: u32 = 2;
-
-pub const NODE: u32 = 3;
-
-pub const BINDER: u32 = 4;
-
-pub const NO_TERM: u32 = 5;
-
-// The children that a term's word can have.
-pub const MOST_CHILDREN: u32 = 2;
-
-// The table of tags, a digit for each, that of tag 0 last: what a word begins whose
-// payload is 0, and whose payload is another.
-const BARE_KINDS: u64 = 0x4320034430100005;
-
-const KINDS: u64 = 0x5520055550155555;
-
-// The same for the number of children.
-const BARE_CHILDREN: u64 = 0x2210022220000003;
-
-const CHILDREN: u64 = 0x3310033330033333;
-
-const DIGIT_BITS: u32 = 4;
-
-const DIGITS: u64 = 16;
+#[derive(Clone, Copy, Debug, PartialEq, Eq)]
+pub enum Class {
+    Atom,
+    Variable,
+    Sign,
+    Node,
+    Binder,
+    NoTerm,
+}
 
 pub fn tag_of(word: u32) -> u32
     ensures { result ≡ tag_of word }
@@ -124,37 +104,38 @@ pub fn payload_of(word: u32) -> u32
     word % PAYLOADS
 }
 
-// What a word begins.
-pub fn kind(word: u32) -> u32
-    ensures { result ≡ shape_kind (word_shape word) }
+// The table of tags: what a word begins.
+pub fn class_of(word: u32) -> Class
+    ensures { result ≡ shape_class (word_shape word) }
 {
-    let tag = tag_of(word);
-    if tag <= TAG_BIND {
-        if payload_of(word) == 0 {
-            return ((BARE_KINDS >> (tag * DIGIT_BITS)) % DIGITS) as u32;
-        }
-        return ((KINDS >> (tag * DIGIT_BITS)) % DIGITS) as u32;
+    match tag_of(word) {
+        TAG_CONSTANT | TAG_TEXT | TAG_NAME => Class::Atom,
+        TAG_VARIABLE => Class::Variable,
+        TAG_SIGN => Class::Sign,
+        // any other word has no payload
+        _ if payload_of(word) != 0 => Class::NoTerm,
+        TAG_PROP | TAG_TYPE | TAG_STRING | TAG_PRIN => Class::Atom,
+        TAG_SAYS | TAG_APP | TAG_RET => Class::Node,
+        TAG_PI | TAG_LAM | TAG_BIND => Class::Binder,
+        _ => Class::NoTerm,
     }
-    NO_TERM
 }
 
-// The number of children that a word has, and one more than it can have for no term.
-pub fn children(word: u32) -> u32
+// The number of children that a word has; none for no term.
+pub fn children(word: u32) -> Option<usize>
     ensures { result ≡ shape_children (word_shape word) }
 {
-    let tag = tag_of(word);
-    if tag <= TAG_BIND {
-        if payload_of(word) == 0 {
-            return ((BARE_CHILDREN >> (tag * DIGIT_BITS)) % DIGITS) as u32;
-        }
-        return ((CHILDREN >> (tag * DIGIT_BITS)) % DIGITS) as u32;
+    match class_of(word) {
+        Class::Atom | Class::Variable => Some(0),
+        Class::Sign => Some(1),
+        Class::Node | Class::Binder => Some(2),
+        Class::NoTerm => None,
     }
-    MOST_CHILDREN + 1
 }
 
 // Whether a word's second child stands under a binder.
 pub fn binds(word: u32) -> bool
     ensures { result ≡ shape_binds (word_shape word) }
 {
-    kind(word) == BINDER
+    class_of(word) == Class::Binder
 }

@@ -1,5 +1,4 @@
 -- Laws of moved words, one for each step of the code.
-pub mod Signed
 pub mod Cases
 pub mod Shifts
 pub mod Fills

@@ -6,17 +6,17 @@ ghost use Rattle.words.specs.Place.{At, Is};
 ghost use Rattle.moves.specs.Fill.{Fillable, FilledTo};
 
 use crate::shift::shift_into;
-use logic::word::{ATOM, NODE, SIGN, VARIABLE, VARIABLE_0, kind, payload_of};
+use logic::word::{Class, VARIABLE_0, class_of, payload_of};
 use parts::{copy, skip};
 
-// Where the next term starts and where the words written end; or there is no room.
-#[derive(Drop)]
-pub enum Filled {
-    Done { next: usize, end: usize },
-    Over,
+// Where the next term starts and where the words written end.
+#[derive(Clone, Copy)]
+pub struct Filled {
+    pub next: usize,
+    pub end: usize,
 }
 
-// Fills where a variable stands: the filler is raised over the c binders passed.
+// Fills where a variable stands, if there is room: the filler is raised over the c binders passed.
 fn fill_variable(
     src: &[u32],
     at: usize,
@@ -24,7 +24,7 @@ fn fill_variable(
     filler: &[u32],
     out: &mut [u32],
     to: usize,
-) -> Filled
+) -> Option<Filled>
     requires { (to ≤ length out.old) × Fillable src.now at c filler.now }
     ensures { (n : ℕ) → (e : Term) → At src.now at (var n) → Is filler.now e
         → FilledTo (var n) (fill_at c e (var n)) at out.old to out.new result }
@@ -32,31 +32,23 @@ fn fill_variable(
     let word = src[at];
     let n = payload_of(word);
     if n == c {
-        if filler.len() <= out.len() - to {
-            let up = c as i32;
-            let raised = shift_into(filler, 0, up, out, to);
-            return Filled::Done {
-                next: at + 1,
-                end: to + raised.words,
-            };
+        if out.len() - to < filler.len() {
+            return None;
         }
-        return Filled::Over;
+        let raised = shift_into(filler, 0, c as i32, out, to);
+        return Some(Filled {
+            next: at + 1,
+            end: to + raised.words,
+        });
     }
     if out.len() <= to {
-        return Filled::Over;
+        return None;
     }
-    if n < c {
-        out[to] = word;
-        return Filled::Done {
-            next: at + 1,
-            end: to + 1,
-        };
-    }
-    out[to] = VARIABLE_0 + (n - 1);
-    Filled::Done {
+    out[to] = if n < c { word } else { VARIABLE_0 + (n - 1) };
+    Some(Filled {
         next: at + 1,
         end: to + 1,
-    }
+    })
 }
 
 // Writes the words of the term that stands at `at`, variable c replaced by the filler, into out from `to` on, as far as
@@ -68,7 +60,7 @@ pub fn fill_into(
     filler: &[u32],
     out: &mut [u32],
     to: usize,
-) -> Filled
+) -> Option<Filled>
     requires { (to ≤ length out.old) × Fillable src.now at c filler.now }
     ensures { (t e : Term) → At src.now at t → Is filler.now e
         → FilledTo t (fill_at c e t) at out.old to out.new result }
@@ -78,40 +70,38 @@ pub fn fill_into(
     let mut place = to;
     loop {
         let word = src[start];
-        let k = kind(word);
-        if k == VARIABLE {
-            return fill_variable(src, start, depth, filler, out, place);
-        }
-        if k == SIGN {
-            // a signed proposition is closed, and is left unchanged
-            let next = skip(src, start);
-            let n = next - start;
-            if out.len() - place < n {
-                return Filled::Over;
+        match class_of(word) {
+            Class::Variable => return fill_variable(src, start, depth, filler, out, place),
+            Class::Sign => {
+                // a signed proposition is closed, and is left unchanged
+                let next = skip(src, start);
+                let n = next - start;
+                if out.len() - place < n {
+                    return None;
+                }
+                copy(src, start, n, out, place);
+                return Some(Filled {
+                    next,
+                    end: place + n,
+                });
             }
-            copy(src, start, n, out, place);
-            return Filled::Done {
-                next,
-                end: place + n,
-            };
+            class => {
+                if out.len() <= place {
+                    return None;
+                }
+                out[place] = word;
+                if class == Class::Atom {
+                    return Some(Filled {
+                        next: start + 1,
+                        end: place + 1,
+                    });
+                }
+                let first = fill_into(src, start + 1, depth, filler, out, place + 1)?;
+                // the second child is filled in the node's place
+                start = first.next;
+                place = first.end;
+                depth += u32::from(class == Class::Binder);
+            }
         }
-        if out.len() <= place {
-            return Filled::Over;
-        }
-        out[place] = word;
-        if k == ATOM {
-            return Filled::Done {
-                next: start + 1,
-                end: place + 1,
-            };
-        }
-        let first = fill_into(src, start + 1, depth, filler, out, place + 1);
-        let Filled::Done { next, end } = first else {
-            return first;
-        };
-        // the second child is filled in the node's place
-        start = next;
-        depth += k - NODE;
-        place = end;
     }
 }

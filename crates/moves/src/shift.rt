@@ -6,12 +6,12 @@ ghost use Rattle.logic.specs.Move.{moved as moved_by};
 ghost use Rattle.words.specs.Place.{At, Is};
 ghost use Rattle.moves.specs.Shift.{Shiftable, ShiftableWhole, Shifted};
 
-use logic::word::{NODE, VARIABLE, VARIABLE_0, kind, payload_of};
+use logic::word::{Class, VARIABLE_0, class_of, payload_of};
 use parts::{copy, skip};
 
 // What a shift answers: how many words the term has, and "how many it met, each as often as it stands and also for a
 // shift by 0": the variables that stand free from c on.
-#[derive(Drop)]
+#[derive(Clone, Copy)]
 pub struct Shift {
     pub words: usize,
     pub free: usize,
@@ -34,27 +34,29 @@ pub fn shift_within(words: &mut [u32], at: usize, c: u32, amount: i32) -> Shift
     ensures { (t : Term) → At words.old at t → Shifted t c amount words.old at words.new result }
 {
     let word = words[at];
-    let k = kind(word);
-    if k == VARIABLE {
-        let n = payload_of(word);
-        if n < c {
-            return Shift { words: 1, free: 0 };
+    match class_of(word) {
+        Class::Variable => {
+            let n = payload_of(word);
+            if n < c {
+                return Shift { words: 1, free: 0 };
+            }
+            words[at] = VARIABLE_0 + moved(n, amount);
+            Shift { words: 1, free: 1 }
         }
-        words[at] = VARIABLE_0 + moved(n, amount);
-        return Shift { words: 1, free: 1 };
-    }
-    if k < NODE {
+        class @ (Class::Node | Class::Binder) => {
+            let a = shift_within(words, at + 1, c, amount);
+            let inner = c + u32::from(class == Class::Binder);
+            let b = shift_within(words, at + 1 + a.words, inner, amount);
+            Shift {
+                words: 1 + a.words + b.words,
+                free: a.free + b.free,
+            }
+        }
         // an atom, or a Sign, whose proposition is closed: nothing to move
-        return Shift {
-            words: skip(&words[..], at) - at,
+        _ => Shift {
+            words: skip(words, at) - at,
             free: 0,
-        };
-    }
-    let a = shift_within(words, at + 1, c, amount);
-    let b = shift_within(words, at + 1 + a.words, c + (k - NODE), amount);
-    Shift {
-        words: 1 + a.words + b.words,
-        free: a.free + b.free,
+        },
     }
 }
 

@@ -1,6 +1,6 @@
 -- Laws for each step of the code.
 pub mod Clears
-pub mod Arrays
+pub mod Scopes
 pub mod Places
 pub mod Writes
 pub mod Calls

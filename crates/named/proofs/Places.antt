@@ -1,27 +1,27 @@
--- Where a term of an edition stands in a list of words: its first word, its kind and its children's places.
-use Prim.Native.Nat.{ℕ, zero, suc, ◌+◌, ◌<◌, ◌≤◌}
+-- Where a term of an edition stands in a list of words: its first word, its class and its children's places.
+use Prim.Native.Nat.{ℕ, zero, suc, ◌+◌, ◌<◌}
 use mathlib.Core.Path.{◌≡◌, refl, sym, ap, ◌∙◌}
 use mathlib.Core.Bool.{Bool, true, false, cond}
 use mathlib.Core.List.{List, [], ◌∷◌, ◌++◌, map, map-append, append_assoc}
-use lib.Dec.{eqb}
-use lib.ListN.{length, drop, get_or, length-map}
+use lib.ListN.{length, drop, get_or, length-map, get_or-map}
 use lib.Seq.{drop-drop, drop_at}
 use native.Mathlib.Omega.{arith}
 use Rattle.logic.specs.Limits.{payloads}
 use Rattle.logic.specs.Tags.{tag_variable}
 use Rattle.logic.specs.Term.{Op, saysO, piO, lamO, appO, retO, bindO, binds, word, op_word, payload_of}
 use Rattle.logic.specs.Reading.{word_shape}
-use Rattle.logic.specs.Kind.{kind_node, kind_binder, shape_kind, op_kind}
-use Rattle.logic.proofs.Shapes.{term_kind}
+use Rattle.logic.specs.Kind.{shape_class, op_class}
+use Rattle.logic.specs.declared.word.Class.{Class}
+use Rattle.logic.specs.declared.word.Class.TheVariants.{Node, Binder}
+use Rattle.logic.proofs.Shapes.{term_class}
 use Rattle.words.specs.Place.{At}
-use Rattle.words.proofs.Places.{cons_head, cons_tail, at_kind, at_end, at_within}
+use Rattle.words.proofs.Places.{cons_head, cons_tail, class_at, at_within}
 use Rattle.editions.specs.Named.{Label, Named, var', sign', node', label, labelled, encode', size', erased}
 use Rattle.editions.specs.Edition.{PlainLabel, Plain', tag_word, unnamed}
-use Rattle.named.specs.Answers.{EditionAt}
+use Rattle.named.specs.Answers.{is_binder, EditionAt}
 use Rattle.editions.specs.declared.Edition.{Edition}
 use Rattle.editions.specs.declared.Edition.TheVariants.{Counts, Names}
-use Rattle.editions.proofs.Words.{encode_size', erased_size, erased_plain, unnamed_words, clear_node}
-use Rattle.named.proofs.Clears.{getD_unnamed}
+use Rattle.editions.proofs.Words.{encode_size', erased_plain, unnamed_words, clear_node}
 
 drop_map : (f : ℕ → ℕ) (n : ℕ) (xs : List ℕ) → drop n (map f xs) ≡ map f (drop n xs)
 drop_map f zero [] = refl
@@ -38,12 +38,15 @@ unnamed_at {e} {ws} {at} {s} h = record {
       ∙ ap (λ (l : List ℕ). l ++ map (unnamed e) h.rest) (unnamed_words e s h.plain);
 }
 
-pub edition_kind : {e : Edition} {ws : List ℕ} {at : ℕ} {s : Named} → EditionAt e ws at s →
-    shape_kind (word_shape (unnamed e (get_or ws at 0))) ≡ term_kind (erased s)
-edition_kind {e} {ws} {at} h = ap (λ w. shape_kind (word_shape w)) (sym (getD_unnamed e ws at)) ∙ at_kind (unnamed_at h)
+-- the word at a place, without its name
+getD_unnamed : (e : Edition) (ws : List ℕ) (i : ℕ) → get_or (map (unnamed e) ws) i 0 ≡ unnamed e (get_or ws i 0)
+getD_unnamed Counts ws i = get_or-map (unnamed Counts) ws i 0
+getD_unnamed Names ws i = get_or-map (unnamed Names) ws i 0
 
-pub edition_end : {e : Edition} {ws : List ℕ} {at : ℕ} {s : Named} → EditionAt e ws at s → at + size' s ≤ length ws
-edition_end {e} {ws} {at} {s} h = omega (arith, at_end (unnamed_at h), erased_size s, length-map ws (unnamed e))
+-- the class that was found there
+pub edition_class : {e : Edition} {ws : List ℕ} {at u : ℕ} {k : Class} {s : Named} → u ≡ unnamed e (get_or ws at 0) → k ≡ shape_class (word_shape u) →
+    EditionAt e ws at s → term_class (erased s) ≡ k
+edition_class {e} {ws} {at} b f h = class_at (f ∙ ap (λ w. shape_class (word_shape w)) (b ∙ sym (getD_unnamed e ws at))) (unnamed_at h)
 
 pub edition_within : {e : Edition} {ws : List ℕ} {at : ℕ} {s : Named} → EditionAt e ws at s → at < length ws
 edition_within {e} {ws} h = omega (arith, at_within (unnamed_at h), length-map ws (unnamed e))
@@ -104,10 +107,10 @@ pub node_label : (e : Edition) (o : Op) (l : Label (binds o)) (w : ℕ) → Plai
     label (binds o) (payload_of w) ≡ l
 node_label e o l w p h = ap (λ v. label (binds o) (payload_of v)) h ∙ (clear_node e o l p).2
 
--- the number of its kind tells whether it binds
-pub kind_binds : (o : Op) (k : ℕ) → k ≡ op_kind o → eqb k kind_binder ≡ binds o
-kind_binds o k h = ap (λ j. eqb j kind_binder) h ∙ go (binds o)
+-- its class tells whether it binds
+pub class_binds : (o : Op) (k : Class) → op_class o ≡ k → is_binder k ≡ binds o
+class_binds o k h = ap is_binder (sym h) ∙ go (binds o)
   where
-    go : (b : Bool) → eqb (cond b kind_binder kind_node) kind_binder ≡ b
+    go : (b : Bool) → is_binder (cond b Binder Node) ≡ b
     go true = refl
     go false = refl

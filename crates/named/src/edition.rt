@@ -24,9 +24,7 @@ pub fn unnamed_words(edition: Edition, words: &[u32], out: &mut [u32])
     requires { length words.now ≤ length out.old }
     ensures { out.new ≡ written_at out.old 0 (map (unnamed_word edition) words.now) }
 {
-    let mut i = 0;
-    while i < words.len() {
+    for i in 0..words.len() {
         out[i] = unnamed(edition, words[i]);
-        i += 1;
     }
 }

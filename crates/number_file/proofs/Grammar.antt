@@ -4,13 +4,14 @@ use native.Mathlib.Omega.{arith}
 use mathlib.Core.Path.{◌≡◌, refl, sym, ap, ap₂, subst, ◌∙◌}
 use mathlib.Core.Logic.{◌↔◌}
 use mathlib.Core.Bool.{Bool, true, false, ◌&&◌, cond}
-use mathlib.Core.Option.{Option, some, none}
+use Rattle.std.specs.Prelude.{Option, Some, None}
 use mathlib.Core.List.{List, [], ◌∷◌, ◌++◌, append_assoc}
 use lib.Dec.{leb, ltb, eqb}
 use lib.ListN.{length, drop, length-append}
 use lib.Seq.{drop_at}
 use borrow.Author.Tests.{le-leb, leb-true, ltb-true, ltb-false, eq-eqb, ne_eqb, eqb-true}
-use Rattle.logic.specs.Result.{Result, ok, refused, known, require, ◌>>=◌, ◌>>◌}
+use Rattle.logic.specs.Answer.{found}
+use Rattle.logic.specs.Result.{Result, ok, refused, require, ◌>>=◌, ◌>>◌}
 use Rattle.logic.proofs.Basics.{clash}
 use Rattle.logic.proofs.Results.{both_true, not_ok}
 use Rattle.decimal.specs.Decimal.{zero_digit, digits, number, number_bytes, feed}
@@ -39,12 +40,12 @@ digit_behind n b l h o m =
 
 -- the digits so far, of a number that is small enough
 abbrev digits_of : Option ℕ → List ℕ
-digits_of none = []
-digits_of (some n) = digits 10 n
+digits_of None = []
+digits_of (Some n) = digits 10 n
 
 abbrev Fits : Option ℕ → Type 0
-Fits none = Unit {0}
-Fits (some n) = n ≤ largest
+Fits None = Unit {0}
+Fits (Some n) = n ≤ largest
 
 record Sound (this other : ℕ) (f : Option ℕ) (bs ns : List ℕ) : Type 0 where
   pub text : digits_of f ++ bs ≡ fields this other ns
@@ -56,12 +57,12 @@ ok_same p = cc
 
 sound_end : (this other : ℕ) (f : Option ℕ) (ns : List ℕ) → bytes_ended other f ≡ ok ns → Sound this other f [] ns
 unfolding fields Small last_end
-sound_end this other none ns e = go (eqb other feed) refl e
+sound_end this other None ns e = go (eqb other feed) refl e
   where
-    go : (b : Bool) → eqb other feed ≡ b → (require b out_of_form 0 >> ok []) ≡ ok ns → Sound this other none [] ns
-    go true q e = subst (Sound this other none []) (ok_same e) (record { text = refl; small = tt; whole = eqb-true other feed q })
+    go : (b : Bool) → eqb other feed ≡ b → (require b out_of_form 0 >> ok []) ≡ ok ns → Sound this other None [] ns
+    go true q e = subst (Sound this other None []) (ok_same e) (record { text = refl; small = tt; whole = eqb-true other feed q })
     go false q e = absurd (not_ok e)
-sound_end this other (some n) ns e = absurd (not_ok e)
+sound_end this other (Some n) ns e = absurd (not_ok e)
 
 record Cons (o : Result (List ℕ)) (n : ℕ) (ns : List ℕ) : Type 0 where
   pub rest : List ℕ
@@ -74,14 +75,14 @@ cons_ok (refused m p) n ns e = absurd (not_ok e)
 
 -- a number ends
 sound_last : (this other b : ℕ) (f : Option ℕ) (bs ns : List ℕ) → Fits f → b ≡ this →
-    ((xs : List ℕ) → numbers other this none bs ≡ ok xs → Sound other this none bs xs) →
-    (known out_of_form 0 f >>= λ n. (numbers other this none bs >>= λ xs. ok (n ∷ xs))) ≡ ok ns → Sound this other f (b ∷ bs) ns
+    ((xs : List ℕ) → numbers other this None bs ≡ ok xs → Sound other this None bs xs) →
+    (found out_of_form 0 f >>= λ n. (numbers other this None bs >>= λ xs. ok (n ∷ xs))) ≡ ok ns → Sound this other f (b ∷ bs) ns
 unfolding fields number Small last_end
-sound_last this other b none bs ns h q ih e = absurd (not_ok e)
-sound_last this other b (some n) bs ns h q ih e =
-    let c = cons_ok (numbers other this none bs) n ns e in
+sound_last this other b None bs ns h q ih e = absurd (not_ok e)
+sound_last this other b (Some n) bs ns h q ih e =
+    let c = cons_ok (numbers other this None bs) n ns e in
     let s = ih c.rest c.is in
-    subst (Sound this other (some n) (b ∷ bs)) c.all
+    subst (Sound this other (Some n) (b ∷ bs)) c.all
     (record {
       text = ap₂ (λ (x : ℕ) (l : List ℕ). digits 10 n ++ (x ∷ l)) q s.text ∙ sym (append_assoc (digits 10 n) (this ∷ []) (fields other this c.rest));
       small = (h, s.small);
@@ -97,19 +98,19 @@ record DigitRead (f : Option ℕ) (b : ℕ) (k : ℕ → Result (List ℕ)) (ns 
 
 digit_read : (f : Option ℕ) (b : ℕ) (k : ℕ → Result (List ℕ)) (ns : List ℕ) → (digit f b >>= k) ≡ ok ns → DigitRead f b k ns
 unfolding digit
-digit_read none b k ns e = go (is_digit b) refl e
+digit_read None b k ns e = go (is_digit b) refl e
   where
-    go : (x : Bool) → is_digit b ≡ x → ((require x out_of_form 0 >> ok (b - zero_digit)) >>= k) ≡ ok ns → DigitRead none b k ns
+    go : (x : Bool) → is_digit b ≡ x → ((require x out_of_form 0 >> ok (b - zero_digit)) >>= k) ≡ ok ns → DigitRead None b k ns
     go true q e =
         let (low, high) = both_true (leb zero_digit b) (leb b (zero_digit + 9)) q in
         let l = leb-true zero_digit b low in
         let h = leb-true b (zero_digit + 9) high in
         record { value = b - zero_digit; goes_on = e; fits = omega arith; text = one_digit b l h }
     go false q e = absurd (not_ok e)
-digit_read (some n) b k ns e = go (is_digit b && leb 1 n && leb (10 * n + (b - zero_digit)) largest) refl e
+digit_read (Some n) b k ns e = go (is_digit b && leb 1 n && leb (10 * n + (b - zero_digit)) largest) refl e
   where
     go : (x : Bool) → (is_digit b && leb 1 n && leb (10 * n + (b - zero_digit)) largest) ≡ x →
-        ((require x out_of_form 0 >> ok (10 * n + (b - zero_digit))) >>= k) ≡ ok ns → DigitRead (some n) b k ns
+        ((require x out_of_form 0 >> ok (10 * n + (b - zero_digit))) >>= k) ≡ ok ns → DigitRead (Some n) b k ns
     go true q e =
         let (begun, most) = both_true (is_digit b && leb 1 n) (leb (10 * n + (b - zero_digit)) largest) q in
         let (digit, one) = both_true (is_digit b) (leb 1 n) begun in
@@ -122,10 +123,10 @@ digit_read (some n) b k ns e = go (is_digit b && leb 1 n && leb (10 * n + (b - z
     go false q e = absurd (not_ok e)
 
 sound_more : (this other b : ℕ) (f : Option ℕ) (bs ns : List ℕ) →
-    ((n : ℕ) → n ≤ largest → numbers this other (some n) bs ≡ ok ns → Sound this other (some n) bs ns) →
-    (digit f b >>= λ n. numbers this other (some n) bs) ≡ ok ns → Sound this other f (b ∷ bs) ns
+    ((n : ℕ) → n ≤ largest → numbers this other (Some n) bs ≡ ok ns → Sound this other (Some n) bs ns) →
+    (digit f b >>= λ n. numbers this other (Some n) bs) ≡ ok ns → Sound this other f (b ∷ bs) ns
 sound_more this other b f bs ns ih e =
-    let d = digit_read f b (λ n. numbers this other (some n) bs) ns e in
+    let d = digit_read f b (λ n. numbers this other (Some n) bs) ns e in
     let s = ih d.value d.fits d.goes_on in
     record {
       text = sym (append_assoc (digits_of f) (b ∷ []) bs) ∙ ap (λ (l : List ℕ). l ++ bs) (sym d.text) ∙ s.text;
@@ -134,18 +135,18 @@ sound_more this other b f bs ns ih e =
     }
 
 sound_byte : (this other b : ℕ) (f : Option ℕ) (bs ns : List ℕ) (x : Bool) → eqb b this ≡ x → Fits f →
-    ((xs : List ℕ) → numbers other this none bs ≡ ok xs → Sound other this none bs xs) →
-    ((n : ℕ) → n ≤ largest → numbers this other (some n) bs ≡ ok ns → Sound this other (some n) bs ns) →
-    cond x (known out_of_form 0 f >>= λ n. (numbers other this none bs >>= λ xs. ok (n ∷ xs)))
-    (digit f b >>= λ n. numbers this other (some n) bs) ≡ ok ns → Sound this other f (b ∷ bs) ns
+    ((xs : List ℕ) → numbers other this None bs ≡ ok xs → Sound other this None bs xs) →
+    ((n : ℕ) → n ≤ largest → numbers this other (Some n) bs ≡ ok ns → Sound this other (Some n) bs ns) →
+    cond x (found out_of_form 0 f >>= λ n. (numbers other this None bs >>= λ xs. ok (n ∷ xs)))
+    (digit f b >>= λ n. numbers this other (Some n) bs) ≡ ok ns → Sound this other f (b ∷ bs) ns
 sound_byte this other b f bs ns true q h i j e = sound_last this other b f bs ns h (eqb-true b this q) i e
 sound_byte this other b f bs ns false q h i j e = sound_more this other b f bs ns j e
 
 sound : (this other : ℕ) (f : Option ℕ) (bs ns : List ℕ) → Fits f → numbers this other f bs ≡ ok ns → Sound this other f bs ns
 unfolding numbers
 sound this other f [] ns h e = sound_end this other f ns e
-sound this other f (b ∷ bs) ns h e = sound_byte this other b f bs ns (eqb b this) refl h (λ xs. sound other this none bs xs tt)
-    (λ n l. sound this other (some n) bs ns l) e
+sound this other f (b ∷ bs) ns h e = sound_byte this other b f bs ns (eqb b this) refl h (λ xs. sound other this None bs xs tt)
+    (λ n l. sound this other (Some n) bs ns l) e
 
 -- ---- what is written so is read
 
@@ -155,7 +156,7 @@ Apart end = (x : ℕ) → x < 10 → zero_digit + x ≡ end → ⊥
 
 module _ (this other : ℕ) (apart : Apart this) where
   -- one digit
-  push_first : (n : ℕ) (rest : List ℕ) → n < 10 → numbers this other none ((zero_digit + n) ∷ rest) ≡ numbers this other (some n) rest
+  push_first : (n : ℕ) (rest : List ℕ) → n < 10 → numbers this other None ((zero_digit + n) ∷ rest) ≡ numbers this other (Some n) rest
   unfolding numbers digit
   push_first n rest h =
       let e : zero_digit + n - zero_digit ≡ n = omega arith in
@@ -164,10 +165,10 @@ module _ (this other : ℕ) (apart : Apart this) where
         le-leb zero_digit (zero_digit + n) (omega arith),
         le-leb (zero_digit + n)
             (zero_digit + 9) (omega arith),
-      ) (ap (λ (x : ℕ). numbers this other (some x) rest) e)
+      ) (ap (λ (x : ℕ). numbers this other (Some x) rest) e)
 
-  push_next : (n d : ℕ) (rest : List ℕ) → d < 10 → 1 ≤ n → 10 * n + d ≤ largest → numbers this other (some n) ((zero_digit + d) ∷ rest) ≡
-      numbers this other (some (10 * n + d)) rest
+  push_next : (n d : ℕ) (rest : List ℕ) → d < 10 → 1 ≤ n → 10 * n + d ≤ largest → numbers this other (Some n) ((zero_digit + d) ∷ rest) ≡
+      numbers this other (Some (10 * n + d)) rest
   unfolding numbers digit
   push_next n d rest h o m =
       let e : zero_digit + d - zero_digit ≡ d = omega arith in
@@ -179,38 +180,38 @@ module _ (this other : ℕ) (apart : Apart this) where
         le-leb 1 n o,
         le-leb (10 * n + (zero_digit + d - zero_digit)) largest (omega arith),
       )
-      (ap (λ (x : ℕ). numbers this other (some (10 * n + x)) rest) e)
+      (ap (λ (x : ℕ). numbers this other (Some (10 * n + x)) rest) e)
 
   push_some : (k n : ℕ) (rest : List ℕ) (b : Bool) → ltb n 10 ≡ b → n ≤ largest →
-      ((r : List ℕ) → 10 ≤ n → numbers this other none (digits k (n / 10) ++ r) ≡ numbers this other (some (n / 10)) r) →
-      numbers this other none (digits (suc k) n ++ rest) ≡ numbers this other (some n) rest
+      ((r : List ℕ) → 10 ≤ n → numbers this other None (digits k (n / 10) ++ r) ≡ numbers this other (Some (n / 10)) r) →
+      numbers this other None (digits (suc k) n ++ rest) ≡ numbers this other (Some n) rest
   push_some k n rest true e m f = let s = ltb-true n 10 e in
-      ap (λ (d : List ℕ). numbers this other none (d ++ rest)) (sym (digits_one (suc k) n (λ z. omega arith) s)) ∙ push_first n rest s
+      ap (λ (d : List ℕ). numbers this other None (d ++ rest)) (sym (digits_one (suc k) n (λ z. omega arith) s)) ∙ push_first n rest s
   push_some k n rest false e m f =
       let s = ltb-false n 10 e in
       let a : suc k - 1 ≡ k = omega arith in
       let v : 10 * (n / 10) + n % 10 ≡ n = omega arith in
-      ap (λ (d : List ℕ). numbers this other none (d ++ rest))
+      ap (λ (d : List ℕ). numbers this other None (d ++ rest))
       (sym (digits_more (suc k) n (λ z. omega arith) s) ∙ ap (λ (j : ℕ). digits j (n / 10) ++ ((zero_digit + n % 10) ∷ [])) a)
-      ∙ ap (numbers this other none) (append_assoc (digits k (n / 10)) ((zero_digit + n % 10) ∷ []) rest)
+      ∙ ap (numbers this other None) (append_assoc (digits k (n / 10)) ((zero_digit + n % 10) ∷ []) rest)
       ∙ f ((zero_digit + n % 10) ∷ rest) s
       ∙ push_next (n / 10) (n % 10) rest (omega arith) (omega arith) (omega arith)
-      ∙ ap (λ (x : ℕ). numbers this other (some x) rest) v
+      ∙ ap (λ (x : ℕ). numbers this other (Some x) rest) v
 
-  push_all : (k n : ℕ) (rest : List ℕ) → n < 10 * power k → n ≤ largest → numbers this other none (digits (suc k) n ++ rest) ≡ numbers this other (some n) rest
+  push_all : (k n : ℕ) (rest : List ℕ) → n < 10 * power k → n ≤ largest → numbers this other None (digits (suc k) n ++ rest) ≡ numbers this other (Some n) rest
   push_all zero n rest h m = push_some zero n rest (ltb n 10) refl m (λ r s. absurd (omega arith))
   push_all (suc k) n rest h m = push_some (suc k) n rest (ltb n 10) refl m (λ r s. push_all k (n / 10) r (omega arith) (omega arith))
 
-  push_number : (n : ℕ) (rest : List ℕ) → n ≤ largest → numbers this other none (number n this ++ rest) ≡ (numbers other this none rest >>= λ ns. ok (n ∷ ns))
+  push_number : (n : ℕ) (rest : List ℕ) → n ≤ largest → numbers this other None (number n this ++ rest) ≡ (numbers other this None rest >>= λ ns. ok (n ∷ ns))
   unfolding number numbers
   push_number n rest m =
-      ap (numbers this other none) (append_assoc (digits 10 n) (this ∷ []) rest)
+      ap (numbers this other None) (append_assoc (digits 10 n) (this ∷ []) rest)
       ∙ push_all 9 n (this ∷ rest) (omega arith) m
-      ∙ ap (λ (b : Bool). cond b (numbers other this none rest >>= λ ns. ok (n ∷ ns))
-      (digit (some n) this >>= λ x. numbers this other (some x) rest)) (eq-eqb this this refl)
+      ∙ ap (λ (b : Bool). cond b (numbers other this None rest >>= λ ns. ok (n ∷ ns))
+      (digit (Some n) this >>= λ x. numbers this other (Some x) rest)) (eq-eqb this this refl)
 
 complete : (this other : ℕ) (ns : List ℕ) → Apart this → Apart other → Small ns → last_end this other ns ≡ feed →
-    numbers this other none (fields this other ns) ≡ ok ns
+    numbers this other None (fields this other ns) ≡ ok ns
 unfolding numbers fields Small last_end
 complete this other [] a b s e = ap (λ (x : Bool). require x out_of_form 0 >> ok []) (eq-eqb other feed e)
 complete this other (n ∷ ns) a b s e = push_number this other a n (fields other this ns) s.0 ∙ ap
@@ -236,10 +237,10 @@ module _ (heading : List ℕ) (this : ℕ) where
   unfolding file
   is_file bs ns e = go (starts_with heading bs) refl e
     where
-      go : (b : Bool) → starts_with heading bs ≡ b → (require b out_of_form 0 >> numbers this feed none (drop (length heading) bs)) ≡
+      go : (b : Bool) → starts_with heading bs ≡ b → (require b out_of_form 0 >> numbers this feed None (drop (length heading) bs)) ≡
           ok ns → IsFile heading this bs ns
       go true q e =
-          let s = sound this feed none (drop (length heading) bs) ns tt e in
+          let s = sound this feed None (drop (length heading) bs) ns tt e in
           record { bytes = starts_split heading bs q ∙ ap (λ (l : List ℕ). heading ++ l) s.text; small = s.small; whole = s.whole }
       go false q e = absurd (not_ok e)
 
@@ -247,9 +248,9 @@ module _ (heading : List ℕ) (this : ℕ) where
   unfolding file
   file_read bs ns a f =
       let rest : List ℕ = fields this feed ns in
-      ap (λ (l : List ℕ). require (starts_with heading l) out_of_form 0 >> numbers this feed none (drop (length heading) l)) f.bytes
-      ∙ ap (λ (b : Bool). require b out_of_form 0 >> numbers this feed none (drop (length heading) (heading ++ rest))) (starts_self heading rest)
-      ∙ ap (numbers this feed none) (drop_at heading rest (length heading) refl)
+      ap (λ (l : List ℕ). require (starts_with heading l) out_of_form 0 >> numbers this feed None (drop (length heading) l)) f.bytes
+      ∙ ap (λ (b : Bool). require b out_of_form 0 >> numbers this feed None (drop (length heading) (heading ++ rest))) (starts_self heading rest)
+      ∙ ap (numbers this feed None) (drop_at heading rest (length heading) refl)
       ∙ complete this feed ns a (λ x h e. omega arith) f.small f.whole
 
 -- the numbers that are read are those that are written there

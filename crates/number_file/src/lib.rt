@@ -1,125 +1,64 @@
 // Numbers in a file's lines, in decimal: read from its bytes, and put into a buffer.
 #![tactic(auto)]
 
-ghost use Rattle.std.specs.Prelude.{◌≡◌, ◌+◌, ◌*◌, ◌≤◌, length};
-ghost use Rattle.std.proofs.Math.Option.{none};
+ghost use Rattle.std.specs.Prelude.{◌≡◌, ◌+◌, ◌*◌, ◌≤◌, length, None};
+ghost use Rattle.logic.specs.Refusals.{out_of_form};
+ghost use Rattle.logic.specs.Answer.{found};
 ghost use Rattle.decimal.specs.Decimal.{feed, comma, number_bytes, Put};
-ghost use Rattle.number_file.specs.NumberFile.{digit, numbers, starts_with, file, fields, so_far, digit_answer, ReadAs};
+ghost use Rattle.number_file.specs.NumberFile.{digit, numbers, file, fields, ReadAs};
 
 use decimal::put_number;
+use std::mem::swap;
 
-const FEED: u8 = 10;
+const FEED: u8 = b'\n';
 
-const LARGEST: u64 = 4294967295;
-
-// A number with one digit more.
-#[derive(Drop)]
-pub enum Digit {
-    More(u32),
-    Wrong,
-}
-
-// How many numbers there are.
-#[derive(Drop)]
-pub enum Numbers {
-    Whole(usize),
-    Broken,
-}
-
-// The number so far, if it has begun, with one byte more.
-fn push(begun: bool, value: u32, byte: u8) -> Digit
-    ensures { digit_answer result ≡ digit (so_far begun value) byte }
+// The number so far with one byte more. A number is a u32, with no needless zero.
+#[tactic(auto, unfolding(crate::specs::NumberFile::digit))]
+fn push(so_far: Option<u32>, byte: u8) -> Option<u32>
+    ensures { found out_of_form 0 result ≡ digit so_far byte }
 {
-    if byte < b'0' {
-        return Digit::Wrong;
+    if !byte.is_ascii_digit() {
+        return None;
     }
-    if b'9' < byte {
-        return Digit::Wrong;
+    let last = u32::from(byte - b'0');
+    match so_far {
+        None => Some(last),
+        Some(0) => None,
+        Some(n) => n.checked_mul(10)?.checked_add(last),
     }
-    let last = byte - b'0';
-    if !begun {
-        return Digit::More(last as u32);
-    }
-    if value == 0 {
-        return Digit::Wrong;
-    }
-    let more = 10 * (value as u64) + last as u64;
-    if LARGEST < more {
-        return Digit::Wrong;
-    }
-    Digit::More(more as u32)
 }
 
-// The numbers of these bytes, put at the front of the words. They end in `first` and in a line feed by turns.
-fn read_numbers(bytes: &[u8], first: u8, words: &mut [u32]) -> Numbers
+// How many numbers these bytes are, put at the front of the words. They end in `first` and in a line feed by turns.
+fn read_numbers(bytes: &[u8], first: u8, words: &mut [u32]) -> Option<usize>
     requires { length bytes.now ≤ 2 * length words.old }
-    ensures { ReadAs (numbers first feed none bytes.now) words.old words.new result }
+    ensures { ReadAs (numbers first feed None bytes.now) words.old words.new result }
 {
     let mut this = first;
     let mut other = FEED;
-    let mut begun = false;
-    let mut value: u32 = 0;
+    let mut so_far = None;
     let mut count = 0;
-    let mut i = 0;
-    while i < bytes.len() {
-        let byte = bytes[i];
-        i += 1;
+    for &byte in bytes {
         if byte == this {
-            if !begun {
-                return Numbers::Broken;
-            }
-            words[count] = value;
+            words[count] = so_far.take()?;
             count += 1;
-            begun = false;
-            let next = other;
-            other = this;
-            this = next;
-            continue;
+            swap(&mut this, &mut other);
+        } else {
+            so_far = Some(push(so_far, byte)?);
         }
-        let pushed = push(begun, value, byte);
-        let Digit::More(more) = pushed else {
-            return Numbers::Broken;
-        };
-        value = more;
-        begun = true;
     }
-    if begun {
-        return Numbers::Broken;
+    if so_far.is_some() || other != FEED {
+        return None;
     }
-    if other != FEED {
-        return Numbers::Broken;
-    }
-    Numbers::Whole(count)
-}
-
-// Whether the bytes begin with the heading.
-fn starts(bytes: &[u8], heading: &[u8]) -> bool
-    ensures { result ≡ starts_with heading.now bytes.now }
-{
-    let mut i = 0;
-    while i < heading.len() {
-        if bytes.len() <= i {
-            return false;
-        }
-        if bytes[i] != heading[i] {
-            return false;
-        }
-        i += 1;
-    }
-    true
+    Some(count)
 }
 
 // The numbers behind the first line. A number takes two bytes at least.
-pub fn read(bytes: &[u8], heading: &[u8], first: u8, words: &mut [u32]) -> Numbers
+pub fn read(bytes: &[u8], heading: &[u8], first: u8, words: &mut [u32]) -> Option<usize>
     requires { length bytes.now ≤ 2 * length words.old }
     ensures { ReadAs (file heading.now first bytes.now) words.old words.new result }
 {
-    let headed = starts(bytes, heading);
-    if !headed {
-        return Numbers::Broken;
-    }
-    let from = heading.len();
-    read_numbers(&bytes[from..], first, words)
+    let rest = bytes.strip_prefix(heading)?;
+    read_numbers(rest, first, words)
 }
 
 // Puts a number and a comma, a number and a line feed, and so on.
@@ -130,13 +69,9 @@ pub fn put_fields(words: &[u32], out: &mut [u8], to: usize) -> usize
     let mut end = to;
     let mut this = b',';
     let mut other = b'\n';
-    let mut i = 0;
-    while i < words.len() {
-        end = put_number(words[i], this, out, end);
-        let next = other;
-        other = this;
-        this = next;
-        i += 1;
+    for &word in words {
+        end = put_number(word, this, out, end);
+        swap(&mut this, &mut other);
     }
     end
 }

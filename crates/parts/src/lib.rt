@@ -18,7 +18,7 @@ pub fn skip(words: &[u32], at: usize) -> usize
     let mut next = at;
     let mut count: usize = 1;
     while 0 < count {
-        count = count - 1 + children(words[next]) as usize;
+        count = count - 1 + children(words[next]).unwrap();
         next += 1;
     }
     next
@@ -28,25 +28,7 @@ pub fn skip(words: &[u32], at: usize) -> usize
 pub fn same(a: &[u32], b: &[u32]) -> bool
     ensures { (result ≡ true → a.now ≡ b.now) × (a.now ≡ b.now → result ≡ true) }
 {
-    if a.len() != b.len() {
-        return false;
-    }
-    equal_words(a, b)
-}
-
-// Whether a and b, which are equally long, hold the same words: compared word by word.
-pub fn equal_words(a: &[u32], b: &[u32]) -> bool
-    requires { length a.now ≡ length b.now }
-    ensures { (result ≡ true → a.now ≡ b.now) × (a.now ≡ b.now → result ≡ true) }
-{
-    let mut i = 0;
-    while i < a.len() {
-        if a[i] != b[i] {
-            return false;
-        }
-        i += 1;
-    }
-    true
+    a == b
 }
 
 // Copies n words of src from `at` on into out from `to` on.
@@ -54,11 +36,7 @@ pub fn copy(src: &[u32], at: usize, n: usize, out: &mut [u32], to: usize)
     requires { (at + n ≤ length src.now) × (to + n ≤ length out.old) }
     ensures { out.new ≡ written_at out.old to (take n (drop at src.now)) }
 {
-    let mut i = 0;
-    while i < n {
-        out[to + i] = src[at + i];
-        i += 1;
-    }
+    out[to..to + n].copy_from_slice(&src[at..at + n]);
 }
 
 // Copies n words from `at` on to `to` on, in one list.
@@ -66,9 +44,5 @@ pub fn copy_within(words: &mut [u32], at: usize, n: usize, to: usize)
     requires { Copyable (length words.old) at n to }
     ensures { words.new ≡ written_at words.old to (take n (drop at words.old)) }
 {
-    let mut i = 0;
-    while i < n {
-        words[to + i] = words[at + i];
-        i += 1;
-    }
+    words.copy_within(at..at + n, to);
 }

@@ -12,19 +12,12 @@ pub fn proposition(words: &[u32], at: usize) -> bool
     requires { TypeStands words.now at }
     ensures { (A : Term) → TypeAt words.now at A → result ≡ is-proposition A }
 {
-    let tag = tag_of(words[at]);
-    let pi = tag == TAG_PI;
-    if pi {
-        let next = skip(words, at + 1);
-        return proposition(words, next);
+    match tag_of(words[at]) {
+        TAG_PI => {
+            let body = skip(words, at + 1);
+            proposition(words, body)
+        }
+        TAG_VARIABLE..=TAG_BIND => true,
+        _ => false,
     }
-    let low = tag < TAG_VARIABLE;
-    if low {
-        return false;
-    }
-    let sort = TAG_BIND < tag;
-    if sort {
-        return false;
-    }
-    true
 }

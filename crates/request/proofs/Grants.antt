@@ -2,66 +2,41 @@
 use Prim.Native.Nat.{ℕ, ◌+◌, ◌-◌, ◌≤◌, ◌<◌}
 use native.Mathlib.Omega.{arith}
 use mathlib.Core.Path.{◌≡◌, refl, sym, ap, ap₂, ◌∙◌}
-use mathlib.Core.Bool.{Bool, true, false, ◌&&◌, and-false}
+use mathlib.Core.Bool.{Bool, true, ◌&&◌}
 use mathlib.Core.List.{List, []}
 use mathlib.Core.Option.{some}
 use lib.Dec.{leb, ltb}
 use lib.ListN.{length, take}
 use lib.Seq.{take_at}
-use borrow.Author.Tests.{le-leb, lt-leb, le-ltb, lt-ltb, ltb-true}
+use borrow.Author.Tests.{le-leb, lt-leb, ltb-true}
 use Rattle.logic.specs.Limits.{payloads, most_operations, most_words, most_nesting}
 use Rattle.logic.specs.Refusals.{bad_number, day_before_latest, another_proposition, register_full}
 use Rattle.logic.specs.Result.{Result, ok, refused, ◌>>=◌, ◌>>◌, require}
 use Rattle.logic.specs.Term.{Term, encode, size}
 use Rattle.logic.specs.Infer.{same}
 use Rattle.logic.specs.Check.{check_term}
-use Rattle.logic.proofs.Results.{both_true, true_both}
+use Rattle.logic.proofs.Results.{both_true}
 use Rattle.logic.proofs.Words.{encode_size}
 use Rattle.logic.specs.Reading.{InRange}
-use Rattle.words.specs.Place.{Is}
 use Rattle.words.specs.Typed.{TypeAt}
 use Rattle.words.proofs.Types.{in_range}
 use Rattle.words.proofs.Sames.{same_types}
-use Rattle.rules.specs.declared.derivation.Derivation.{Derivation}
-use Rattle.rules.specs.declared.derivation.Derivation.TheVariants.{Typed, Refused}
-use Rattle.words.specs.declared.verdict.Verdict.{Verdict}
-use Rattle.words.specs.declared.verdict.Verdict.TheVariants.{Passed, Refused as VerdictRefused}
-use Rattle.words.specs.Verdict.{verdict_answer}
-use Rattle.typing.specs.Check.{typed_term, Judged}
+use Rattle.typing.specs.Check.{typed_term}
 use Rattle.records.specs.Answers.{Room}
-use Rattle.signs.specs.Answers.{miss_answer}
 use Rattle.search.specs.declared.view.View.{View as SearchView}
-use Rattle.search.specs.Sources.{register_source, register_view}
-use Rattle.signs.specs.declared.Missed.{Missed}
-use Rattle.signs.specs.declared.Missed.TheVariants.{Nowhere, At}
+use Rattle.search.specs.Sources.{register_span, IsView}
 use Rattle.records.proofs.Items.{records_there}
 use Rattle.write_records.proofs.Adds.{entry_length, room_for}
-use Rattle.register.specs.Records.{Ask, Content, register_content, used, latest, statements, some_of, holding, words_of, appended, entry_extra}
+use Rattle.register.specs.Records.{Ask, Content, register_content, used, latest, statements, some_of, holding, words_of, entry_extra}
 use Rattle.register.specs.Calls.{Lent, Holding, View, payload, permission, entry, ask_test, signs_held, view, outline_of, proved_own, request_own}
-use Rattle.register.specs.Calls.{request_call, after_request}
+use Rattle.register.specs.Calls.{request_call}
 use Rattle.register.specs.Batch.{granted_words}
 use Rattle.register.specs.BatchTests.{with_receipts, view_behind, asks_words, AllInRange}
 use Rattle.register.specs.Succeeds.{Grantable}
 use Rattle.register.proofs.Succeeds.{demand2}
 use Rattle.register.proofs.Words.{unbroken_right}
-use Rattle.shared_tests.proofs.OwnTests.{typed_so, typed_refused, type_found, type_refused}
-use Rattle.request.specs.Requested.{RequestedAs, Seen}
-
--- ---- test 5 of the call's own numbers
-
-module _ (n : ℕ) (k : Ask) where
-  abbrev below : Bool
-  below = ltb k.operation n
-
-  pub not_below : n ≤ k.operation → false ≡ ask_test n k
-  not_below h = sym (ap (λ (b : Bool). b && payload k.extract && payload k.delivery) (le-ltb k.operation n h))
-
-  pub extract_over : payloads ≤ k.extract → false ≡ ask_test n k
-  extract_over h = sym (ap (λ (b : Bool). below && b && payload k.delivery) (le-ltb k.extract payloads h) ∙ ap
-      (λ (b : Bool). b && payload k.delivery) (and-false below))
-
-  pub others_in_range : k.operation < n → k.extract < payloads → ltb k.delivery payloads ≡ ask_test n k
-  others_in_range a b = sym (ap (λ (x : Bool). x && payload k.delivery) (true_both (lt-ltb k.operation n a) (lt-ltb k.extract payloads b)))
+use Rattle.shared_tests.proofs.OwnTests.{TypedSo, typed_refused}
+use Rattle.request.specs.Requested.{Seen}
 
 -- ---- test 13: the type found is the permission
 
@@ -98,67 +73,48 @@ module _ (l : Lent) (Σ : List Term) (c : Content) (reg : List ℕ) (ks : List A
   entry_fits = leb (taken + length (words_of (entry k))) (length reg)
 
   -- tests 13, 14 and 16
-  module _ (t A : Term) (wanted : Bool) (right : wanted ≡ same A (permission k)) where
+  module _ (t A : Term) (wanted : Bool) (right : wanted ≡ same A (permission k)) (q : wanted ≡ true) where
     abbrev tests : Result (Unit {0})
     tests = proved_own k (record { term = t; type = A }) sees
 
-    pub request_another : wanted ≡ false → refused another_proposition 0 ≡ tests
-    request_another q = ap (λ (b : Bool). in_turn b (signs_held holds t) entry_fits) (sym q ∙ right)
+    wanted_proved : tests ≡ (signs_held holds t >> require entry_fits register_full 0)
+    wanted_proved = ap (λ (b : Bool). in_turn b (signs_held holds t) entry_fits) (sym right ∙ q)
 
-    module _ (q : wanted ≡ true) (x : Missed) (e : miss_answer x ≡ signs_held holds t) where
-      wanted_proved : tests ≡ (signs_held holds t >> require entry_fits register_full 0)
-      wanted_proved = ap (λ (b : Bool). in_turn b (signs_held holds t) entry_fits) (sym right ∙ q)
+    pub request_missed : {m p : ℕ} → signs_held holds t ≡ refused m p → tests ≡ refused m p
+    request_missed f = wanted_proved ∙ ap (λ s. s >> require entry_fits register_full 0) f
 
-      pub request_missed : (m place : ℕ) → x ≡ At m place → refused m place ≡ tests
-      request_missed m place f = sym (wanted_proved ∙ ap (λ s. s >> require entry_fits register_full 0) (sym e ∙ ap miss_answer f))
+    module _ (f : signs_held holds t ≡ ok tt) where
+      signs_found : tests ≡ require entry_fits register_full 0
+      signs_found = wanted_proved ∙ ap (λ s. s >> require entry_fits register_full 0) f
 
-      module _ (f : x ≡ Nowhere) where
-        signs_found : tests ≡ require entry_fits register_full 0
-        signs_found = wanted_proved ∙ ap (λ s. s >> require entry_fits register_full 0) (sym e ∙ ap miss_answer f)
+      pub request_full : length reg - taken < length k.proof + entry_extra → tests ≡ refused register_full 0
+      request_full h = signs_found ∙ ap (λ (b : Bool). require b register_full 0)
+          (lt-leb (taken + length (words_of (entry k))) (length reg) (omega (arith, entry_length k)))
 
-        pub request_full : length reg - taken < length k.proof + entry_extra → refused register_full 0 ≡ tests
-        request_full h = sym (signs_found ∙ ap (λ (b : Bool). require b register_full 0)
-            (lt-leb (taken + length (words_of (entry k))) (length reg) (omega (arith, entry_length k))))
-
-        pub request_enough : taken ≤ length reg → length k.proof + entry_extra ≤ length reg - taken → ok tt ≡ tests
-        request_enough w h = sym (signs_found ∙ ap (λ (b : Bool). require b register_full 0)
-            (le-leb (taken + length (words_of (entry k))) (length reg) (omega (arith, entry_length k))))
+      pub request_enough : taken ≤ length reg → length k.proof + entry_extra ≤ length reg - taken → tests ≡ ok tt
+      request_enough w h = signs_found ∙ ap (λ (b : Bool). require b register_full 0)
+          (le-leb (taken + length (words_of (entry k))) (length reg) (omega (arith, entry_length k)))
 
   -- tests 5 and 23, each by what it finds, and those behind them
   abbrev numbered : (fine timely : Bool) → Result (Unit {0})
   numbered b t = require b bad_number 0 >> (require t day_before_latest 0 >> (check_term Σ k.proof >>= λ x. proved_own k x sees))
 
-  module _ (b : Bool) (e : b ≡ ask_test l.n k) where
-    pub bad_numbers : b ≡ false → refused bad_number 0 ≡ request_own k sees
-    bad_numbers q = sym (ap (λ (x : Bool). numbered x (leb sees.latest k.day)) (sym e ∙ q))
+  module _ (b : Bool) (e : b ≡ ask_test l.n k) (q : b ≡ true) where
+    pub in_range_numbers : (k.operation < l.n) × (k.extract < payloads) × (k.delivery < payloads)
+    in_range_numbers =
+        let (a, c) = both_true (ltb k.operation l.n && payload k.extract) (payload k.delivery) (sym e ∙ q) in
+        let (d, f) = both_true (ltb k.operation l.n) (payload k.extract) a in
+        (ltb-true k.operation l.n d, ltb-true k.extract payloads f, ltb-true k.delivery payloads c)
 
-    module _ (q : b ≡ true) where
-      pub in_range_numbers : (k.operation < l.n) × (k.extract < payloads) × (k.delivery < payloads)
-      in_range_numbers =
-          let (a, c) = both_true (ltb k.operation l.n && payload k.extract) (payload k.delivery) (sym e ∙ q) in
-          let (d, f) = both_true (ltb k.operation l.n) (payload k.extract) a in
-          (ltb-true k.operation l.n d, ltb-true k.extract payloads f, ltb-true k.delivery payloads c)
+    module _ (timely : sees.latest ≤ k.day) where
+      numbers_right : request_own k sees ≡ (check_term Σ k.proof >>= λ x. proved_own k x sees)
+      numbers_right = ap₂ numbered (sym e ∙ q) (le-leb sees.latest k.day timely)
 
-      pub request_late : k.day < sees.latest → refused day_before_latest 0 ≡ request_own k sees
-      request_late h = sym (ap₂ numbered (sym e ∙ q) (lt-leb sees.latest k.day h))
+      pub request_not_typed : {m p : ℕ} → typed_term Σ most_words most_nesting k.proof ≡ refused m p → request_own k sees ≡ refused m p
+      request_not_typed f = numbers_right ∙ ap (λ x. x >>= λ y. proved_own k y sees) (typed_refused Σ k.proof _ _ f)
 
-      module _ (timely : sees.latest ≤ k.day) where
-        numbers_right : request_own k sees ≡ (check_term Σ k.proof >>= λ x. proved_own k x sees)
-        numbers_right = ap₂ numbered (sym e ∙ q) (le-leb sees.latest k.day timely)
-
-        module _ (new : List ℕ) (d : Derivation) (J : Judged (typed_term Σ most_words most_nesting k.proof) (length k.proof) new d) where
-          pub request_not_typed : (m place : ℕ) → d ≡ Refused m place → refused m place ≡ request_own k sees
-          request_not_typed m place f = sym (numbers_right ∙ ap (λ x. x >>= λ y. proved_own k y sees)
-              (typed_refused Σ k.proof m place (type_refused _ _ new d m place J f)))
-
-          pub proved : (words end : ℕ) → d ≡ Typed words end → (r : Verdict) →
-              ((t A : Term) → Is k.proof t → TypeAt new 0 A → words ≡ size A → verdict_answer r ≡ proved_own k (record { term = t; type = A }) sees) →
-              verdict_answer r ≡ request_own k sees
-          proved words end f r g =
-              let T = type_found _ _ new d words end J f in
-              let S = typed_so Σ k.proof T.type T.is in
-              g S.term T.type S.term_is T.front T.words_are
-              ∙ sym (numbers_right ∙ ap (λ y. y >>= λ z. proved_own k z sees) S.is)
+      pub request_typed : {A : Term} (T : TypedSo Σ k.proof A) → request_own k sees ≡ proved_own k (record { term = T.term; type = A }) sees
+      request_typed T = numbers_right ∙ ap (λ x. x >>= λ y. proved_own k y sees) T.is
 
 -- ---- all tests
 
@@ -177,17 +133,20 @@ behind_none day s =
     }
 
 -- and the code its view
-pub none_before : (reg ws : List ℕ) (day : ℕ) (c : Content) {v : SearchView} → v ≡ register_view reg → register_content reg ≡ ok c →
-    Seen v reg (take 0 ws) day c []
+pub none_before : (v : SearchView) (reg : List ℕ) (day : ℕ) (c : Content) → IsView v reg → register_content reg ≡ ok c → Seen v [] day c []
 unfolding granted_words asks_words AllInRange
-none_before reg ws day c {v} e r =
-    let sum : used reg ≡ used reg + 0 = omega arith in
-    let within : used reg ≤ length reg = (records_there reg c r).within in
+none_before v reg day c V r =
+    let e : register_content v.source.list.now ≡ ok c = ap register_content V.list ∙ r in
+    let u : v.used ≡ used v.source.list.now = V.used_is ∙ sym (ap used V.list) in
+    let within : used v.source.list.now ≤ length v.source.list.now = (records_there v.source.list.now c e).within in
     record {
-      reads = r;
-      is = e ∙ λ i. record { size = length reg; used = sum i; latest = latest reg; source = register_source reg };
+      reads = e;
+      span = V.span ∙ sym (ap register_span V.list);
+      size = V.size ∙ sym (ap length V.list);
+      used_is = omega arith;
+      latest_is = V.latest_is ∙ sym (ap latest V.list);
       before = record { words = refl; in_range = tt };
-      fits = omega (arith, within);
+      fits = omega arith;
     }
 
 -- ---- what a request leaves
@@ -202,14 +161,3 @@ module _ (l : Lent) (reg : List ℕ) (k : Ask) (granted : request_call l reg k �
       let G = grantable_now in
       room_for reg (entry k) (record { found = G.proof.content; reads = (unbroken_right reg G.proof.content).1 G.proof.unbroken })
       G.proof.ready.not_longer G.room
-
-module _ (l : Lent) (reg : List ℕ) (k : Ask) (r : Verdict) (e : verdict_answer r ≡ request_call l reg k) where
-  pub request_kept : (m place : ℕ) → r ≡ VerdictRefused m place → RequestedAs l reg k reg r
-  request_kept m place q = record { answer = e; register = ap (λ (o : Result (Unit {0})). after_request o reg k) (sym (ap verdict_answer q) ∙ e) }
-
-  module _ (q : r ≡ Passed) where
-    pub granted_so : request_call l reg k ≡ ok tt
-    granted_so = sym e ∙ ap verdict_answer q
-
-    pub request_granted : (new : List ℕ) → new ≡ appended reg k.day (entry k) → RequestedAs l reg k new Passed
-    request_granted new f = record { answer = sym granted_so; register = f ∙ sym (ap (λ (o : Result (Unit {0})). after_request o reg k) granted_so) }

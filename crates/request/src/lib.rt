@@ -4,92 +4,56 @@
 pub mod tests;
 
 ghost use Rattle.std.specs.Prelude.{◌≡◌};
-ghost use Rattle.words.specs.Verdict.{verdict_answer};
-ghost use Rattle.register.specs.Records.{ask_of};
+ghost use Rattle.logic.specs.Answer.{answer};
 ghost use Rattle.register.specs.Calls.{request_call};
-ghost use Rattle.shared_tests.specs.Shared.{lent_of};
+ghost use Rattle.records.specs.Entries.{asked};
+ghost use Rattle.shared_tests.specs.Shared.{lent_by};
 ghost use Rattle.request.specs.Requested.{RequestedAs};
 
 use crate::tests::request_tests;
 use logic::limit::MOST_CONSTANTS;
+use logic::refusal::Refusal;
+use records::entry::Ask;
 use search::view::view_of;
-use shared_tests::{Ready, prepare};
-use words::verdict::Verdict;
+use shared_tests::prepare;
+use shared_tests::signed::Signature;
 use write_records::add_grant;
 
 // All tests of a request.
 fn grantable(
-    sig: &[u32],
-    n: u32,
+    signature: Signature,
     register: &[u32],
-    day: u32,
-    operation: u32,
-    extract: u32,
-    delivery: u32,
-    proof: &[u32],
+    ask: Ask,
     ws: &mut [u32],
-) -> Verdict
-    ensures { verdict_answer result ≡
-        request_call (lent_of sig.now n ws.old) register.now
-        (ask_of operation extract delivery day proof.now) }
+) -> Result<(), Refusal>
+    ensures { answer result ≡ request_call (lent_by signature.entry ws.old) register.now (asked ask.entry) }
 {
     let mut table = [0u32; MOST_CONSTANTS];
-    let ready = prepare(sig, n, register, &mut table, ws);
-    match ready {
-        Ready::Refused { number, place } => Verdict::Refused { number, place },
-        Ready::Constants { count } => {
-            let view = view_of(register);
-            // to fill buckets would take as long as the search of one request
-            let empty = [0usize; 1];
-            request_tests(
-                sig,
-                n,
-                &table[..count],
-                view,
-                register,
-                &empty,
-                &proof[..0],
-                day,
-                operation,
-                extract,
-                delivery,
-                proof,
-                ws,
-            )
-        }
-    }
+    let count = prepare(signature, register, &mut table, ws)?;
+    // to fill buckets would take as long as the search of one request
+    let empty = [0usize; 1];
+    request_tests(
+        signature,
+        &table[..count],
+        view_of(register),
+        &empty,
+        &[],
+        ask,
+        ws,
+    )
 }
 
 // A request that is granted adds its grant and its receipt, and sets the latest day. Nothing is written before the last
 // test has passed.
 pub fn request(
-    sig: &[u32],
-    n: u32,
+    signature: Signature,
     register: &mut [u32],
-    day: u32,
-    operation: u32,
-    extract: u32,
-    delivery: u32,
-    proof: &[u32],
+    ask: Ask,
     ws: &mut [u32],
-) -> Verdict
-    ensures { RequestedAs (lent_of sig.now n ws.old) register.old
-        (ask_of operation extract delivery day proof.now) register.new result }
+) -> Result<(), Refusal>
+    ensures { RequestedAs (lent_by signature.entry ws.old) register.old (asked ask.entry) register.new result }
 {
-    let tested = grantable(
-        sig,
-        n,
-        &register[..],
-        day,
-        operation,
-        extract,
-        delivery,
-        proof,
-        ws,
-    );
-    let Verdict::Passed = tested else {
-        return tested;
-    };
-    add_grant(register, day, operation, extract, delivery, proof);
-    Verdict::Passed
+    grantable(signature, register, ask, ws)?;
+    add_grant(register, ask);
+    Ok(())
 }

@@ -6,146 +6,101 @@ ghost use Rattle.logic.specs.Term.{Term, size};
 ghost use Rattle.logic.specs.Infer.{same as same_term};
 ghost use Rattle.words.specs.Place.{Is};
 ghost use Rattle.words.specs.Typed.{TypeAt};
-ghost use Rattle.words.specs.Verdict.{verdict_answer};
+ghost use Rattle.logic.specs.Answer.{answer};
 ghost use Rattle.typing.specs.Check.{ConstantsOf};
-ghost use Rattle.register.specs.Records.{Content, Ask, ask_of};
+ghost use Rattle.register.specs.Records.{Content, Ask as Asked};
+ghost use Rattle.records.specs.Entries.{asked as asked-by};
 ghost use Rattle.register.specs.Calls.{Lent, view as view_of, outline_of, ask_test, permission, proved_own, request_own};
 ghost use Rattle.register.specs.BatchTests.{view_behind};
 ghost use Rattle.request.specs.Requested.{Seen, Provable, Askable};
 
 use logic::limit::{MOST_NESTING, MOST_WORDS};
-use logic::refusal::{ANOTHER_PROPOSITION, BAD_NUMBER, DAY_BEFORE_LATEST, REGISTER_FULL};
+use logic::refusal::{Reason, Refusal};
 use logic::word::{APP, CONSTANT_0, NAME_0, PAYLOADS, SAYS, TEXT_0};
 use parts::same;
+use records::entry::Ask;
 use records::format::{DESK, GRANT_WORDS};
-use rules::derivation::Derivation;
+use rules::constants::Constants;
 use search::view::View;
-use signs::{Missed, first_miss_behind};
+use shared_tests::signed::Signature;
+use signs::first_miss_behind;
 use sought::When;
 use typing::check::check_term;
-use words::verdict::Verdict;
 
 // Test 5 of the call's own numbers.
-fn numbers(n: u32, operation: u32, extract: u32, delivery: u32) -> bool
-    ensures { (day : ℕ) → (proof : List ℕ) → result ≡ ask_test n (ask_of operation extract delivery day proof) }
+fn numbers(n: u32, ask: Ask) -> bool
+    ensures { result ≡ ask_test n (asked-by ask.entry) }
 {
-    if n <= operation {
-        return false;
-    }
-    if PAYLOADS <= extract {
-        return false;
-    }
-    delivery < PAYLOADS
+    ask.operation < n && ask.extract < PAYLOADS && ask.delivery < PAYLOADS
 }
 
 // Test 13: whether the type of n words at the front of the workspace is Says a0 App C2i sv.
-fn permits(ws: &[u32], n: usize, operation: u32, extract: u32) -> bool
-    requires { (n ≤ length ws.now) × (operation < most_operations) × (extract < payloads) }
-    ensures { (A : Term) → (delivery day : ℕ) → (proof : List ℕ) → TypeAt ws.now 0 A → n ≡ size A
-        → result ≡ same_term A (permission (ask_of operation extract delivery day proof)) }
+fn permits(ws: &[u32], n: usize, ask: Ask) -> bool
+    requires { (n ≤ length ws.now) × (ask.operation < most_operations) × (ask.extract < payloads) }
+    ensures { (A : Term) → TypeAt ws.now 0 A → n ≡ size A → result ≡ same_term A (permission (asked-by ask.entry)) }
 {
     let wanted = [
         SAYS,
         NAME_0 + DESK,
         APP,
-        CONSTANT_0 + 2 * operation,
-        TEXT_0 + extract,
+        CONSTANT_0 + 2 * ask.operation,
+        TEXT_0 + ask.extract,
     ];
     same(&ws[..n], &wanted)
 }
 
 // Tests 13, 14 and 16 of a proof whose type is the first n words of the workspace. The buckets are the register's.
-// `asked` are the requests before it, as items of a list, and the view has the words used and the latest day behind
+// `before` are the requests before it, as items of a list, and the view has the words used and the latest day behind
 // them.
 fn proves(
     view: View,
-    register: &[u32],
     buckets: &[usize],
-    asked: &[u32],
-    day: u32,
-    operation: u32,
-    extract: u32,
-    proof: &[u32],
+    before: &[u32],
+    ask: Ask,
     ws: &[u32],
     n: usize,
-) -> Verdict
-    requires { Provable view register.now buckets.now asked.now day operation extract proof.now ws.now n }
-    ensures { (l : Lent) → (Σ : List Term) → (c : Content) → (ks : List Ask) → (delivery : ℕ) → (t A : Term)
-        → Seen view register.now asked.now day c ks → Is proof.now t → TypeAt ws.now 0 A → n ≡ size A
-        → verdict_answer result ≡ proved_own (ask_of operation extract delivery day proof.now) (record { term = t; type = A })
-        (view_behind ks day (view_of l (outline_of register.now) c Σ)) }
+) -> Result<(), Refusal>
+    requires { Provable view buckets.now before.now (asked-by ask) ws.now n }
+    ensures { (l : Lent) → (Σ : List Term) → (c : Content) → (ks : List Asked) → (t A : Term)
+        → Seen view.entry before.now ask.entry.day c ks → Is ask.entry.proof.now t → TypeAt ws.now 0 A → n ≡ size A
+        → answer result ≡ proved_own (asked-by ask.entry) (record { term = t; type = A })
+        (view_behind ks ask.entry.day (view_of l (outline_of view.entry.source.list.now) c Σ)) }
 {
-    let wanted = permits(ws, n, operation, extract);
-    if !wanted {
-        return Verdict::Refused {
-            number: ANOTHER_PROPOSITION,
-            place: 0,
-        };
+    if !permits(ws, n, ask) {
+        return Err(Reason::AnotherProposition.at(0));
     }
-    let miss = first_miss_behind(view.source, register, buckets, asked, proof, When::On(day));
-    if let Missed::At { number, place } = miss {
-        return Verdict::Refused { number, place };
+    first_miss_behind(view.source, buckets, before, ask.proof, When::On(ask.day))?;
+    if view.size - view.used < ask.proof.len() + GRANT_WORDS {
+        return Err(Reason::RegisterFull.at(0));
     }
-    if view.size - view.used < proof.len() + GRANT_WORDS {
-        return Verdict::Refused {
-            number: REGISTER_FULL,
-            place: 0,
-        };
-    }
-    Verdict::Passed
+    Ok(())
 }
 
 // All of them.
 pub fn request_tests(
-    sig: &[u32],
-    n: u32,
+    signature: Signature,
     table: &[u32],
     view: View,
-    register: &[u32],
     buckets: &[usize],
-    asked: &[u32],
-    day: u32,
-    operation: u32,
-    extract: u32,
-    delivery: u32,
-    proof: &[u32],
+    before: &[u32],
+    ask: Ask,
     ws: &mut [u32],
-) -> Verdict
-    requires { Askable sig.now n table.now view register.now buckets.now asked.now day ws.old }
-    ensures { (l : Lent) → (Σ : List Term) → (c : Content) → (ks : List Ask) → l.n ≡ n
-        → ConstantsOf sig.now table.now Σ → Seen view register.now asked.now day c ks
-        → verdict_answer result ≡ request_own (ask_of operation extract delivery day proof.now)
-        (view_behind ks day (view_of l (outline_of register.now) c Σ)) }
+) -> Result<(), Refusal>
+    requires { Askable signature.list.now signature.operations table.now view buckets.now before.now ask.day ws.old }
+    ensures { (l : Lent) → (Σ : List Term) → (c : Content) → (ks : List Asked) → l.n ≡ signature.entry.operations
+        → ConstantsOf signature.entry.list.now table.now Σ → Seen view.entry before.now ask.entry.day c ks
+        → answer result ≡ request_own (asked-by ask.entry) (view_behind ks ask.entry.day (view_of l (outline_of view.entry.source.list.now) c Σ)) }
 {
-    let fine = numbers(n, operation, extract, delivery);
-    if !fine {
-        return Verdict::Refused {
-            number: BAD_NUMBER,
-            place: 0,
-        };
+    if !numbers(signature.operations, ask) {
+        return Err(Reason::BadNumber.at(0));
     }
-    if day < view.latest {
-        return Verdict::Refused {
-            number: DAY_BEFORE_LATEST,
-            place: 0,
-        };
+    if ask.day < view.latest {
+        return Err(Reason::DayBeforeLatest.at(0));
     }
-    let typed = check_term(sig, table, proof, MOST_WORDS, MOST_NESTING, ws);
-    match typed {
-        Derivation::Refused { number, place } => Verdict::Refused { number, place },
-        Derivation::Typed { words, end: _ } => {
-            proves(
-                view,
-                register,
-                buckets,
-                asked,
-                day,
-                operation,
-                extract,
-                proof,
-                &ws[..],
-                words,
-            )
-        }
-    }
+    let constants = Constants {
+        sig: signature.list,
+        table,
+    };
+    let typed = check_term(constants, ask.proof, MOST_WORDS, MOST_NESTING, ws)?;
+    proves(view, buckets, before, ask, ws, typed.words)
 }

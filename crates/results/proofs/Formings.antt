@@ -4,16 +4,14 @@ use native.Mathlib.Omega.{arith}
 use mathlib.Core.Path.{◌≡◌, refl, sym, ap, subst, ◌∙◌}
 use mathlib.Core.Bool.{Bool, true, false, ◌||◌}
 use mathlib.Core.List.{List, ◌∷◌, ◌++◌}
-use lib.Dec.{eqb}
 use lib.ListN.{length, get_or}
-use borrow.Author.Tests.{eqb-true, eqb-false}
 use Rattle.logic.specs.Limits.{most_type_words}
 use Rattle.logic.specs.Refusals.{condition_fails}
-use Rattle.logic.specs.Result.{◌>>◌}
+use Rattle.logic.specs.Result.{refused, ◌>>◌}
 use Rattle.logic.specs.Term.{Op, saysO, piO, lamO, appO, retO, bindO, Term, P, KindP, op_word, encode, size}
 use Rattle.logic.specs.Move.{raise}
 use Rattle.logic.specs.Reading.{branch, word_shape}
-use Rattle.logic.specs.Infer.{same, condition, body, measured}
+use Rattle.logic.specs.Infer.{same, condition, measured}
 use Rattle.logic.proofs.Results.{pass}
 use Rattle.logic.proofs.Stopped.{fail}
 use Rattle.logic.proofs.Proposition.{same_true}
@@ -27,15 +25,43 @@ use Rattle.rules.specs.Form.{front_words, TypeFormed}
 use Rattle.rules.specs.Enter.{keep_of}
 use Rattle.bind_result.specs.BindResult.{Binds, Bindable}
 use Rattle.results.specs.Results.{Applies, Appliable, Pairs, Pairable, Forms, Formable}
-use Rattle.rules.specs.declared.derivation.Derivation.{Derivation}
-use Rattle.rules.specs.declared.derivation.Derivation.TheVariants.{Typed, Refused}
+use Rattle.std.specs.Prelude.{Ok}
+use Rattle.std.specs.Prelude.{Result as Answer}
+use Rattle.logic.specs.Answer.{answer as told}
+use Rattle.logic.specs.declared.refusal.Refusal.{Refusal}
+use Rattle.rules.specs.declared.typed.Typed.{Typed}
 use Rattle.rules.proofs.Fronts.{measured_fits, formed_refused, formed_typed}
 
 -- a word names one node
-op_is : (w : ℕ) (o o' : Op) → w ≡ op_word o → eqb w (op_word o') ≡ true → o ≡ o'
-op_is w o o' p e = let q : branch o ≡ branch o' = sym (shape_op o) ∙ ap word_shape (sym p ∙ eqb-true w (op_word o') e) ∙ shape_op o' in cc
+op_is : (w : ℕ) (o o' : Op) → w ≡ op_word o → w ≡ op_word o' → o ≡ o'
+op_is w o o' p e = let q : branch o ≡ branch o' = sym (shape_op o) ∙ ap word_shape (sym p ∙ e) ∙ shape_op o' in cc
 
-module _ (proof ws : List ℕ) (used at next n m end : ℕ) where
+-- what `front_is` answers
+abbrev pub Is : List ℕ → Term → Bool → Type 0
+Is ws s b = (B : Term) → TypeAt ws 0 B → b ≡ same B s
+
+-- only a Pi is left
+pub record NoOther (w : ℕ) : Type 0 where
+  pub no_app : w ≡ op_word appO → ⊥
+  pub no_bind : w ≡ op_word bindO → ⊥
+  pub no_lam : w ≡ op_word lamO → ⊥
+  pub no_ret : w ≡ op_word retO → ⊥
+  pub no_says : w ≡ op_word saysO → ⊥
+
+the_pi : {w : ℕ} → NoOther w → (o : Op) → w ≡ op_word o → w ≡ op_word piO
+the_pi n saysO e = absurd (n.no_says e)
+the_pi n piO e = e
+the_pi n lamO e = absurd (n.no_lam e)
+the_pi n appO e = absurd (n.no_app e)
+the_pi n retO e = absurd (n.no_ret e)
+the_pi n bindO e = absurd (n.no_bind e)
+
+-- the type of a Says or a Pi is its second child's
+stays : {ws : List ℕ} {m end : ℕ} {t : Bool} (at : ℕ) (B : Term) → t ≡ true → size B ≤ most_type_words → TypeAt ws 0 B → m ≡ size B
+    → TypeFormed (condition at t >> measured at B) end ws ws (Ok (record { words = m; end = end }))
+stays {ws} {end} at B e l h s = formed_typed _ B _ end ws ws (pass condition_fails at e (measured_fits at B l)) s h refl
+
+module _ {proof ws : List ℕ} {used at next n m end : ℕ} where
   -- ---- what each rule needs
 
   applies : {a b A B : Term} → Forms proof ws used at next n m end appO a b A B → Applies proof ws next n m end (first_child A) (second_child A) b B
@@ -80,40 +106,40 @@ module _ (proof ws : List ℕ) (used at next n m end : ℕ) where
   word_is j = at_head j.here
 
   -- what the rule of o' ensures is what the node's rule does, where its word is that of o'
-  by_rule : (o' : Op) (new : List ℕ) (r : Derivation) → eqb (get_or proof at 0) (op_word o') ≡ true
+  by_rule : (o' : Op) {new : List ℕ} {r : Answer Typed Refusal} → get_or proof at 0 ≡ op_word o'
       → ((a b A B : Term) → Forms proof ws used at next n m end o' a b A B → TypeFormed (node_type o' at a b A B) end ws new r)
       → (o : Op) (a b A B : Term) → Forms proof ws used at next n m end o a b A B → TypeFormed (node_type o at a b A B) end ws new r
-  by_rule o' new r e f o a b A B j =
+  by_rule o' {new} {r} e f o a b A B j =
       subst (λ (o : Op). Forms proof ws used at next n m end o a b A B → TypeFormed (node_type o at a b A B) end ws new r) (sym (op_is _ o o' (word_is j) e))
       (f a b A B) j
 
-  pub formed_app : (new : List ℕ) (r : Derivation) → eqb (get_or proof at 0) (op_word appO) ≡ true
+  pub formed_app : {new : List ℕ} {r : Answer Typed Refusal} → get_or proof at 0 ≡ op_word appO
       → ((d C e E : Term) → Applies proof ws next n m end d C e E → TypeFormed (app_type at d C e E) end ws new r)
       → (o : Op) (a b A B : Term) → Forms proof ws used at next n m end o a b A B → TypeFormed (node_type o at a b A B) end ws new r
   unfolding node_type
-  formed_app new r e f = by_rule appO new r e (λ a b A B j. f (first_child A) (second_child A) b B (applies j))
+  formed_app e f = by_rule appO e (λ a b A B j. f (first_child A) (second_child A) b B (applies j))
 
-  pub formed_bind : (new : List ℕ) (r : Derivation) → eqb (get_or proof at 0) (op_word bindO) ≡ true
+  pub formed_bind : {new : List ℕ} {r : Answer Typed Refusal} → get_or proof at 0 ≡ op_word bindO
       → ((p q B : Term) → Binds ws used m p q B → TypeFormed (bind_type at p B) end ws new r)
       → (o : Op) (a b A B : Term) → Forms proof ws used at next n m end o a b A B → TypeFormed (node_type o at a b A B) end ws new r
   unfolding node_type
-  formed_bind new r e f = by_rule bindO new r e (λ a b A B j. f (first_child A) (second_child A) B (bind_says j))
+  formed_bind e f = by_rule bindO e (λ a b A B j. f (first_child A) (second_child A) B (bind_says j))
 
-  pub formed_lam : (new : List ℕ) (r : Derivation) → eqb (get_or proof at 0) (op_word lamO) ≡ true
+  pub formed_lam : {new : List ℕ} {r : Answer Typed Refusal} → get_or proof at 0 ≡ op_word lamO
       → ((o : Op) (a B : Term) → op_word piO ≡ op_word o → Pairs proof ws at next m a B → TypeFormed (pair_type at o a B) end ws new r)
       → (o : Op) (a b A B : Term) → Forms proof ws used at next n m end o a b A B → TypeFormed (node_type o at a b A B) end ws new r
   unfolding node_type
-  formed_lam new r e f = by_rule lamO new r e (λ a b A B j. f piO a B refl (pairs refl j))
+  formed_lam e f = by_rule lamO e (λ a b A B j. f piO a B refl (pairs refl j))
 
-  pub formed_ret : (new : List ℕ) (r : Derivation) → eqb (get_or proof at 0) (op_word retO) ≡ true
+  pub formed_ret : {new : List ℕ} {r : Answer Typed Refusal} → get_or proof at 0 ≡ op_word retO
       → ((o : Op) (a B : Term) → op_word saysO ≡ op_word o → Pairs proof ws at next m a B → TypeFormed (pair_type at o a B) end ws new r)
       → (o : Op) (a b A B : Term) → Forms proof ws used at next n m end o a b A B → TypeFormed (node_type o at a b A B) end ws new r
   unfolding node_type
-  formed_ret new r e f = by_rule retO new r e (λ a b A B j. f saysO a B refl (pairs refl j))
+  formed_ret e f = by_rule retO e (λ a b A B j. f saysO a B refl (pairs refl j))
 
   module _ (p : Formable proof ws used at next n m end) where
     -- the node is that of the word that was found
-    found : (o' : Op) → eqb (get_or proof at 0) (op_word o') ≡ true
+    found : (o' : Op) → get_or proof at 0 ≡ op_word o'
         → Forms proof ws used at next n m end o' p.a p.b p.A p.B × (used + keep_of o' n + front_words ≤ length ws)
     found o' e =
         let q = op_is _ p.o o' (word_is p.forms) e in (
@@ -122,7 +148,7 @@ module _ (proof ws : List ℕ) (used at next n m end : ℕ) where
               (λ (o : Op). used + keep_of o n + front_words ≤ length ws) q p.room,
         )
 
-    pub appliable : eqb (get_or proof at 0) (op_word appO) ≡ true → Appliable proof ws next n m end
+    pub appliable : get_or proof at 0 ≡ op_word appO → Appliable proof ws next n m end
     appliable e =
         let (j, l) = found appO e in
         record {
@@ -137,7 +163,7 @@ module _ (proof ws : List ℕ) (used at next n m end : ℕ) where
           room = omega arith;
         }
 
-    pub bindable : eqb (get_or proof at 0) (op_word bindO) ≡ true → Bindable ws used m
+    pub bindable : get_or proof at 0 ≡ op_word bindO → Bindable ws used m
     unfolding size
     bindable e =
         let (j, l) = found bindO e in
@@ -154,76 +180,53 @@ module _ (proof ws : List ℕ) (used at next n m end : ℕ) where
           room = omega arith;
         }
 
-    pub pairable : (o' : Op) → keep_of o' n ≡ 0 → eqb (get_or proof at 0) (op_word o') ≡ true → Pairable proof ws at next m
+    pub pairable : (o' : Op) → keep_of o' n ≡ 0 → get_or proof at 0 ≡ op_word o' → Pairable proof ws at next m
     pairable o' z e =
         let (j, l) = found o' e in
         record { a = p.a; B = p.B; pairs = pairs z j; small = p.small_second; short = p.short; room = omega arith }
 
-  -- ---- a Says or a Pi
+  -- ---- a Says or a Pi: the type stays
 
-  stays : (t : Bool) (B : Term) → t ≡ true → size B ≤ most_type_words → TypeAt ws 0 B → m ≡ size B
-      → TypeFormed (condition at t >> measured at B) end ws ws (Typed m end)
-  stays t B e l h s = formed_typed _ B m end ws ws (pass condition_fails at e (measured_fits at B l)) s h refl
+  pub formed_says : {prop : Bool} → get_or proof at 0 ≡ op_word saysO → Is ws P prop → prop ≡ true
+      → (o : Op) (a b A B : Term) → Forms proof ws used at next n m end o a b A B
+      → TypeFormed (node_type o at a b A B) end ws ws (Ok (record { words = m; end = end }))
+  unfolding node_type size
+  formed_says w i t = by_rule saysO w (λ a b A B j.
+      let f : same B P ≡ true = sym (i B j.second_type) ∙ t in
+      let q = same_true B P f in
+      stays at P f (omega arith) (subst (TypeAt ws 0) q j.second_type) (j.second_words ∙ ap size q))
 
-  -- the word is none of the others
-  module _ (others : (eqb (get_or proof at 0) (op_word appO) ≡ false) × (eqb (get_or proof at 0) (op_word bindO) ≡ false) ×
-      (eqb (get_or proof at 0) (op_word lamO) ≡ false) × (eqb (get_or proof at 0) (op_word retO) ≡ false))
-      (prop : Bool) (is-prop : (B : Term) → TypeAt ws 0 B → prop ≡ same B P) where
-    pub formed_prop : prop ≡ true → (o : Op) (a b A B : Term) → Forms proof ws used at next n m end o a b A B
-        → TypeFormed (node_type o at a b A B) end ws ws (Typed m end)
-    unfolding node_type size
-    formed_prop t saysO a b A B j =
-        let f : same B P ≡ true = sym (is-prop B j.second_type) ∙ t in
-        let q = same_true B P f in
-        stays (same B P) P f (omega arith) (subst (TypeAt ws 0) q j.second_type) (j.second_words ∙ ap size q)
-    formed_prop t piO a b A B j =
-        let f : same B P ≡ true = sym (is-prop B j.second_type) ∙ t in
-        let z : size B ≡ 1 = ap size (same_true B P f) in
-        stays (body B) B (ap (λ (x : Bool). x || same B KindP) f) (omega arith) j.second_type j.second_words
-    formed_prop t lamO a b A B j = absurd (eqb-false _ _ others.2 (word_is j))
-    formed_prop t appO a b A B j = absurd (eqb-false _ _ others.0 (word_is j))
-    formed_prop t retO a b A B j = absurd (eqb-false _ _ others.3 (word_is j))
-    formed_prop t bindO a b A B j = absurd (eqb-false _ _ others.1 (word_is j))
+  pub formed_no_says : {prop : Bool} {r : Answer Typed Refusal} → get_or proof at 0 ≡ op_word saysO → Is ws P prop → prop ≡ false
+      → told r ≡ refused condition_fails at
+      → (o : Op) (a b A B : Term) → Forms proof ws used at next n m end o a b A B → TypeFormed (node_type o at a b A B) end ws ws r
+  unfolding node_type
+  formed_no_says w i t e = by_rule saysO w (λ a b A B j. formed_refused _ condition_fails at end ws (fail _ at _ (sym (i B j.second_type) ∙ t)) e)
 
-    module _ (no : prop ≡ false) where
-      not_prop : {B : Term} → TypeAt ws 0 B → same B P ≡ false
-      not_prop {B} h = sym (is-prop B h) ∙ no
+  by_pi : {r : Answer Typed Refusal} → NoOther (get_or proof at 0)
+      → ((a b A B : Term) → Forms proof ws used at next n m end piO a b A B → TypeFormed (node_type piO at a b A B) end ws ws r)
+      → (o : Op) (a b A B : Term) → Forms proof ws used at next n m end o a b A B → TypeFormed (node_type o at a b A B) end ws ws r
+  by_pi n f o a b A B j = by_rule piO (the_pi n o (word_is j)) f o a b A B j
 
-      pub formed_no_says : eqb (get_or proof at 0) (op_word saysO) ≡ true → (o : Op) (a b A B : Term) → Forms proof ws used at next n m end o a b A B
-          → TypeFormed (node_type o at a b A B) end ws ws (Refused condition_fails at)
-      unfolding node_type
-      formed_no_says e =
-          by_rule saysO ws (Refused condition_fails at) e (λ a b A B j. formed_refused _ condition_fails at end ws (fail _ at _ (not_prop j.second_type)))
+  pub formed_prop : {prop : Bool} → NoOther (get_or proof at 0) → Is ws P prop → prop ≡ true
+      → (o : Op) (a b A B : Term) → Forms proof ws used at next n m end o a b A B
+      → TypeFormed (node_type o at a b A B) end ws ws (Ok (record { words = m; end = end }))
+  unfolding node_type size
+  formed_prop n i t = by_pi n (λ a b A B j.
+      let f : same B P ≡ true = sym (i B j.second_type) ∙ t in
+      let z : size B ≡ 1 = ap size (same_true B P f) in
+      stays at B (ap (λ (x : Bool). x || same B KindP) f) (omega arith) j.second_type j.second_words)
 
-      module _ (no_says : eqb (get_or proof at 0) (op_word saysO) ≡ false) (kind : Bool) (is-kind : (B : Term) → TypeAt ws 0 B → kind ≡ same B KindP) where
-        -- only a Pi is left
-        the_pi : (o : Op) → get_or proof at 0 ≡ op_word o → o ≡ piO
-        the_pi saysO e = absurd (eqb-false _ _ no_says e)
-        the_pi piO e = refl
-        the_pi lamO e = absurd (eqb-false _ _ others.2 e)
-        the_pi appO e = absurd (eqb-false _ _ others.0 e)
-        the_pi retO e = absurd (eqb-false _ _ others.3 e)
-        the_pi bindO e = absurd (eqb-false _ _ others.1 e)
+  pub formed_kind : {prop kind : Bool} → NoOther (get_or proof at 0) → Is ws P prop → prop ≡ false → Is ws KindP kind → kind ≡ true
+      → (o : Op) (a b A B : Term) → Forms proof ws used at next n m end o a b A B
+      → TypeFormed (node_type o at a b A B) end ws ws (Ok (record { words = m; end = end }))
+  unfolding node_type size
+  formed_kind n i f k t = by_pi n (λ a b A B j.
+      let z : size B ≡ 1 = ap size (same_true B KindP (sym (k B j.second_type) ∙ t)) in
+      stays at B (ap (λ (x : Bool). x || same B KindP) (sym (i B j.second_type) ∙ f) ∙ sym (k B j.second_type) ∙ t) (omega arith) j.second_type j.second_words)
 
-        by_pi : (r : Derivation) → ((a b A B : Term) → Forms proof ws used at next n m end piO a b A B → TypeFormed (node_type piO at a b A B) end ws ws r)
-            → (o : Op) (a b A B : Term) → Forms proof ws used at next n m end o a b A B → TypeFormed (node_type o at a b A B) end ws ws r
-        by_pi r f o a b A B j =
-            subst (λ (o : Op). Forms proof ws used at next n m end o a b A B → TypeFormed (node_type o at a b A B) end ws ws r) (sym (the_pi o (word_is j)))
-            (f a b A B) j
-
-        body_is : {B : Term} → TypeAt ws 0 B → body B ≡ kind
-        body_is {B} h = ap (λ (x : Bool). x || same B KindP) (not_prop h) ∙ sym (is-kind B h)
-
-        pub formed_kind : kind ≡ true → (o : Op) (a b A B : Term) → Forms proof ws used at next n m end o a b A B
-            → TypeFormed (node_type o at a b A B) end ws ws (Typed m end)
-        unfolding node_type size
-        formed_kind t = by_pi (Typed m end) (λ a b A B j.
-            let f : body B ≡ true = body_is j.second_type ∙ t in
-            let z : size B ≡ 1 = ap size (same_true B KindP (sym (is-kind B j.second_type) ∙ t)) in
-            stays (body B) B f (omega arith) j.second_type j.second_words)
-
-        pub formed_no_pi : kind ≡ false → (o : Op) (a b A B : Term) → Forms proof ws used at next n m end o a b A B
-            → TypeFormed (node_type o at a b A B) end ws ws (Refused condition_fails at)
-        unfolding node_type
-        formed_no_pi t =
-            by_pi (Refused condition_fails at) (λ a b A B j. formed_refused _ condition_fails at end ws (fail _ at _ (body_is j.second_type ∙ t)))
+  pub formed_no_pi : {prop kind : Bool} {r : Answer Typed Refusal} → NoOther (get_or proof at 0) → Is ws P prop → prop ≡ false → Is ws KindP kind → kind ≡ false
+      → told r ≡ refused condition_fails at
+      → (o : Op) (a b A B : Term) → Forms proof ws used at next n m end o a b A B → TypeFormed (node_type o at a b A B) end ws ws r
+  unfolding node_type
+  formed_no_pi n i f k t e = by_pi n (λ a b A B j. formed_refused _ condition_fails at end ws
+      (fail _ at _ (ap (λ (x : Bool). x || same B KindP) (sym (i B j.second_type) ∙ f) ∙ sym (k B j.second_type) ∙ t)) e)

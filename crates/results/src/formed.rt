@@ -7,10 +7,10 @@ ghost use Rattle.results.specs.Results.{Forms, Formable};
 use crate::apply::apply;
 use crate::pair::pair;
 use bind_result::bind;
-use logic::refusal::CONDITION_FAILS;
+use logic::refusal::{Reason, Refusal};
 use logic::word::{APP, BIND, KIND_P, LAM, PI, PROP, RET, SAYS};
-use rules::derivation::Derivation;
 use rules::front::front_is;
+use rules::typed::Typed;
 
 // The type of a node, at the front of the workspace, or the refusal. The node stands at `at` in the proof, up to `end`,
 // its second child from `next` on. The second child's type has m words, at the front of the workspace; of an App, they
@@ -24,46 +24,28 @@ pub fn formed(
     n: usize,
     m: usize,
     end: usize,
-) -> Derivation
+) -> Result<Typed, Refusal>
     requires { Formable proof.now ws.old used at next n m end }
     ensures { (o : Op) → (a b A B : Term) → Forms proof.now ws.old used at next n m end o a b A B
         → TypeFormed (node_type o at a b A B) end ws.old ws.new result }
 {
-    let word = proof[at];
-    let is_app = word == APP;
-    if is_app {
-        return apply(proof, ws, at, next, n, m, end);
-    }
-    let is_bind = word == BIND;
-    if is_bind {
-        return bind(ws, used, at, m, end);
-    }
-    let is_lam = word == LAM;
-    if is_lam {
-        return pair(proof, ws, PI, at, next, m, end);
-    }
-    let is_ret = word == RET;
-    if is_ret {
-        return pair(proof, ws, SAYS, at, next, m, end);
-    }
-    // a Says or a Pi: the type stays
-    let is_prop = front_is(&ws[..], PROP);
-    if is_prop {
-        return Derivation::Typed { words: m, end };
-    }
-    let is_says = word == SAYS;
-    if is_says {
-        return Derivation::Refused {
-            number: CONDITION_FAILS,
-            place: at,
-        };
-    }
-    let is_kind = front_is(&ws[..], KIND_P);
-    if is_kind {
-        return Derivation::Typed { words: m, end };
-    }
-    Derivation::Refused {
-        number: CONDITION_FAILS,
-        place: at,
+    match proof[at] {
+        APP => apply(proof, ws, at, next, n, m, end),
+        BIND => bind(ws, used, at, m, end),
+        LAM => pair(proof, ws, PI, at, next, m, end),
+        RET => pair(proof, ws, SAYS, at, next, m, end),
+        SAYS => {
+            if !front_is(ws, PROP) {
+                return Err(Reason::ConditionFails.at(at));
+            }
+            Ok(Typed { words: m, end })
+        }
+        // a Pi, whose type is its body's
+        _ => {
+            if !front_is(ws, PROP) && !front_is(ws, KIND_P) {
+                return Err(Reason::ConditionFails.at(at));
+            }
+            Ok(Typed { words: m, end })
+        }
     }
 }

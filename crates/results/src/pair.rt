@@ -6,10 +6,10 @@ ghost use Rattle.rules.specs.Form.{TypeFormed};
 ghost use Rattle.results.specs.Results.{Pairs, Pairable};
 
 use logic::limit::MOST_TYPE_WORDS;
-use logic::refusal::{CONDITION_FAILS, TYPE_TOO_LONG};
+use logic::refusal::{Reason, Refusal};
 use parts::proposition::proposition;
 use parts::{copy, copy_within};
-use rules::derivation::Derivation;
+use rules::typed::Typed;
 
 // The type that begins with the word `head`, at the front of the workspace, or the refusal. The first child stands in
 // the proof behind `at`, up to `next`; the second's type is the first m words of the workspace.
@@ -21,32 +21,25 @@ pub fn pair(
     next: usize,
     m: usize,
     end: usize,
-) -> Derivation
+) -> Result<Typed, Refusal>
     requires { Pairable proof.now ws.old at next m }
     ensures { (o : Op) → (a B : Term) → head ≡ op_word o → Pairs proof.now ws.old at next m a B
         → TypeFormed (pair_type at o a B) end ws.old ws.new result }
 {
-    let fine = proposition(&ws[..], 0);
-    if !fine {
-        return Derivation::Refused {
-            number: CONDITION_FAILS,
-            place: at,
-        };
+    if !proposition(ws, 0) {
+        return Err(Reason::ConditionFails.at(at));
     }
     // the head word's and the first child's words come before the type's
     let before = next - at;
     if MOST_TYPE_WORDS < before + m {
-        return Derivation::Refused {
-            number: TYPE_TOO_LONG,
-            place: at,
-        };
+        return Err(Reason::TypeTooLong.at(at));
     }
     copy_within(ws, 0, m, MOST_TYPE_WORDS);
     ws[0] = head;
     copy(proof, at + 1, before - 1, ws, 1);
     copy_within(ws, MOST_TYPE_WORDS, m, before);
-    Derivation::Typed {
+    Ok(Typed {
         words: before + m,
         end,
-    }
+    })
 }

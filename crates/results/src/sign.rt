@@ -6,36 +6,35 @@ ghost use Rattle.rules.specs.Form.{TypeFormed};
 ghost use Rattle.results.specs.Results.{Signs, Signable};
 
 use logic::limit::MOST_TYPE_WORDS;
-use logic::refusal::{CONDITION_FAILS, TYPE_TOO_LONG};
+use logic::refusal::{Reason, Refusal};
 use logic::word::{NAME_0, PROP, SAYS, payload_of};
 use parts::copy;
-use rules::derivation::Derivation;
 use rules::front::front_is;
+use rules::typed::Typed;
 
 // The type of a Sign, at the front of the workspace, or the refusal. The Sign stands in the proof at `at`, up to `end`;
 // its proposition's type is the first n words of the workspace.
-pub fn sign(proof: &[u32], ws: &mut [u32], at: usize, n: usize, end: usize) -> Derivation
+pub fn sign(
+    proof: &[u32],
+    ws: &mut [u32],
+    at: usize,
+    n: usize,
+    end: usize,
+) -> Result<Typed, Refusal>
     requires { Signable proof.now ws.old at n end }
     ensures { (a : ℕ) → (q s : Term) → Signs proof.now ws.old at n end a q s
         → TypeFormed (sign_type at a q s) end ws.old ws.new result }
 {
-    let fine = front_is(&ws[..], PROP);
-    if !fine {
-        return Derivation::Refused {
-            number: CONDITION_FAILS,
-            place: at,
-        };
+    if !front_is(ws, PROP) {
+        return Err(Reason::ConditionFails.at(at));
     }
     // Says, the principal and the proposition
     let words = end - at + 1;
     if MOST_TYPE_WORDS < words {
-        return Derivation::Refused {
-            number: TYPE_TOO_LONG,
-            place: at,
-        };
+        return Err(Reason::TypeTooLong.at(at));
     }
     ws[0] = SAYS;
     ws[1] = NAME_0 + payload_of(proof[at]);
     copy(proof, at + 1, words - 2, ws, 2);
-    Derivation::Typed { words, end }
+    Ok(Typed { words, end })
 }

@@ -4,7 +4,8 @@ ghost use Rattle.register.specs.Records.{used_by};
 ghost use Rattle.register.specs.History.{rules_of};
 ghost use Rattle.rule_list.specs.Rules.{WholeRules};
 
-use records::format::{FIRST, HEADER, LAST, PRINCIPAL, RULE_HEAD, RULE_LENGTH, STATEMENT_WORDS};
+use crate::rule::rule_at;
+use records::format::{HEADER, RULE_HEAD, STATEMENT_WORDS};
 use search::statement::{rules_before, stands};
 
 // The words that the opened register uses: the header, and a record for each rule that is not repeated.
@@ -14,23 +15,14 @@ pub fn opening_words(rules: &[u32]) -> usize
 {
     let mut total = HEADER;
     let mut at = 0;
+    // no plainer: the length word of a rule says where the next one stands
     while at < rules.len() {
-        let n = rules[at + RULE_LENGTH] as usize;
-        let start = at + RULE_HEAD;
-        let end = start + n;
-        let earlier = rules_before(at);
-        let repeated = stands(
-            earlier,
-            rules,
-            rules[at + PRINCIPAL],
-            rules[at + FIRST],
-            rules[at + LAST],
-            &rules[start..end],
-        );
-        if !repeated {
-            total = total + STATEMENT_WORDS + n;
+        let rule = rule_at(rules, at);
+        let n = rule.words.len();
+        if !stands(rules_before(rules, at), rule) {
+            total += STATEMENT_WORDS + n;
         }
-        at = end;
+        at += RULE_HEAD + n;
     }
     total
 }

@@ -3,17 +3,15 @@ use Prim.Native.Nat.{ℕ, zero, suc, ◌+◌, ◌-◌, ◌≤◌, ◌<◌}
 use native.Mathlib.Nat.{le_of_suc-le-suc}
 use native.Mathlib.Omega.{arith}
 use mathlib.Core.Path.{◌≡◌, refl, sym, ap, subst, ◌∙◌}
-use mathlib.Core.Bool.{cond}
 use mathlib.Core.Logic.{inl, inr}
 use mathlib.Core.List.{List, [], ◌∷◌}
 use mathlib.Core.Option.{Option, some, none}
-use lib.Dec.{eqb}
 use lib.ListN.{length, take, drop, set, get_or, get_elem?}
 use Rattle.logic.specs.Limits.{most_type_words}
 use Rattle.logic.specs.Refusals.{unknown_constant, type_too_long}
-use Rattle.logic.specs.Tags.{tag_prop, tag_type, tag_string, tag_prin, tag_constant, tag_text, tag_name, tag_kindP, tag_kindT}
-use Rattle.logic.specs.Result.{Result, ok, ◌>>=◌, known}
-use Rattle.logic.specs.Term.{Atom, propA, typeA, stringA, prinA, kindPA, kindTA, constA, textA, nameA, Term, atom, atom_word, word, tag_of}
+use Rattle.logic.specs.Tags.{tag_constant}
+use Rattle.logic.specs.Result.{Result, ok, refused, ◌>>=◌, known}
+use Rattle.logic.specs.Term.{Atom, propA, typeA, stringA, prinA, kindPA, kindTA, constA, textA, nameA, Term, atom, atom_word, tag_of}
 use Rattle.logic.specs.Term.{payload_of, encode, size}
 use Rattle.logic.specs.Reading.{Plain, PlainAtom, PlainType}
 use Rattle.logic.specs.Infer.{measured, infer_atom}
@@ -25,31 +23,14 @@ use Rattle.rules.specs.Rule.{atom_type}
 use Rattle.rules.specs.Scope.{Declared}
 use Rattle.rules.specs.Form.{TypeFormed}
 use Rattle.rules.specs.Atoms.{sort_of}
-use Rattle.rules.specs.declared.derivation.Derivation.{Derivation}
-use Rattle.rules.specs.declared.derivation.Derivation.TheVariants.{Typed, Refused}
+use Rattle.std.specs.Prelude.{Ok}
+use Rattle.std.specs.Prelude.{Result as Answer}
+use Rattle.logic.specs.Answer.{answer as told}
+use Rattle.logic.specs.declared.refusal.Refusal.{Refusal}
+use Rattle.rules.specs.declared.typed.Typed.{Typed}
 use Rattle.rules.proofs.Fronts.{measured_fits, measured_long, formed_refused, writes}
 
 -- ---- an atom's tag
-
--- the word of the type, by the code's tests
-abbrev pub sort_by : ℕ → ℕ
-sort_by tag =
-    cond (eqb tag tag_prop) (word tag_kindP 0) (cond (eqb tag tag_type) (word tag_kindT 0)
-    (cond (eqb tag tag_text) (word tag_string 0) (cond (eqb tag tag_name) (word tag_prin 0) (word tag_type 0))))
-
-sort_right : (a b : Atom) → PlainAtom a → sort_of a ≡ some b → sort_by (tag_of (atom_word a)) ≡ atom_word b
-sort_right propA b p e = ap atom_word (some_inj e)
-sort_right typeA b p e = ap atom_word (some_inj e)
-sort_right stringA b p e = ap atom_word (some_inj e)
-sort_right prinA b p e = ap atom_word (some_inj e)
-sort_right kindPA b p e = absurd p
-sort_right kindTA b p e = absurd p
-sort_right (constA n) b p e = absurd (clash (cc))
-sort_right (textA n) b p e = let t : tag_of (word tag_text n) ≡ tag_text = omega arith in ap sort_by t ∙ ap atom_word (some_inj e)
-sort_right (nameA n) b p e = let t : tag_of (word tag_name n) ≡ tag_name = omega arith in ap sort_by t ∙ ap atom_word (some_inj e)
-
-pub sort_is : {r : ℕ} (tag : ℕ) → sort_by tag ≡ r → (a b : Atom) → PlainAtom a → tag ≡ tag_of (atom_word a) → sort_of a ≡ some b → r ≡ atom_word b
-sort_is tag q a b p t e = sym q ∙ ap sort_by t ∙ sort_right a b p e
 
 -- the word of a constant
 constant_word : (w : ℕ) (a : Atom) → PlainAtom a → w ≡ atom_word a → tag_of w ≡ tag_constant → a ≡ constA (payload_of w)
@@ -101,7 +82,7 @@ sort_infers Σ at (nameA n) b e = ap (λ (b : Atom). ok (atom b)) (some_inj e)
 
 -- its word was written at the front
 pub sorted : (Σ : List Term) (at r : ℕ) (ws : List ℕ) (a b : Atom) → 0 < length ws → sort_of a ≡ some b → r ≡ atom_word b
-    → TypeFormed (atom_type Σ at a) (at + 1) ws (set ws 0 r) (Typed 1 (at + 1))
+    → TypeFormed (atom_type Σ at a) (at + 1) ws (set ws 0 r) (Ok (record { words = 1; end = at + 1 }))
 unfolding encode size
 sorted Σ at r ws a b l e q =
     writes (atom_type Σ at a) (atom b) 1 (at + 1) ws ws (set ws 0 r)
@@ -124,15 +105,15 @@ no_element [] n h = refl
 no_element (A ∷ l) zero h = absurd (omega arith)
 no_element (A ∷ l) (suc n) h = no_element l n (le_of_suc-le-suc h)
 
-pub constant_unknown : {sig table : List ℕ} {Σ : List Term} (ws : List ℕ) (n at : ℕ) → length table ≤ n → Declared sig table Σ
-    → TypeFormed (atom_type Σ at (constA n)) (at + 1) ws ws (Refused unknown_constant at)
-constant_unknown {sig} {table} {Σ} ws n at l d =
+pub constant_unknown : {sig table : List ℕ} {Σ : List Term} {r : Answer Typed Refusal} (ws : List ℕ) (n at : ℕ) → length table ≤ n
+    → told r ≡ refused unknown_constant at → Declared sig table Σ → TypeFormed (atom_type Σ at (constA n)) (at + 1) ws ws r
+constant_unknown {sig} {table} {Σ} ws n at l t d =
     let c : length table ≡ length Σ = d.count in
     formed_refused (atom_type Σ at (constA n)) unknown_constant at (at + 1) ws
-    (ap (λ (o : Option Term). known unknown_constant at o >>= measured at) (no_element Σ n (omega arith)))
+    (ap (λ (o : Option Term). known unknown_constant at o >>= measured at) (no_element Σ n (omega arith))) t
 
 -- a constant's word has a constant's type
-pub constant_typed : {ws new : List ℕ} {r : Derivation} {n : ℕ} (Σ : List Term) (at w : ℕ) (a : Atom) → PlainAtom a → w ≡ atom_word a → tag_of w
+pub constant_typed : {ws new : List ℕ} {r : Answer Typed Refusal} {n : ℕ} (Σ : List Term) (at w : ℕ) (a : Atom) → PlainAtom a → w ≡ atom_word a → tag_of w
     ≡ tag_constant
     → n ≡ payload_of w → TypeFormed (atom_type Σ at (constA n)) (at + 1) ws new r → TypeFormed (atom_type Σ at a) (at + 1) ws new r
 constant_typed {ws} {new} {r} Σ at w a p e t q f =
@@ -156,15 +137,15 @@ module _ {sig table : List ℕ} {n : ℕ} {Σ : List Term} (ws : List ℕ) (at :
   constant_is : atom_type Σ at (constA n) ≡ measured at c.type
   constant_is = ap (λ (o : Option Term). known unknown_constant at o >>= measured at) c.entry
 
-  pub constant_long : most_type_words < get_or sig (get_or table n 0 - 1) 0 → TypeFormed (atom_type Σ at (constA n)) (at + 1) ws ws
-      (Refused type_too_long at)
-  constant_long l =
+  pub constant_long : {r : Answer Typed Refusal} → most_type_words < get_or sig (get_or table n 0 - 1) 0 → told r ≡ refused type_too_long at
+      → TypeFormed (atom_type Σ at (constA n)) (at + 1) ws ws r
+  constant_long l t =
       let w : get_or sig (get_or table n 0 - 1) 0 ≡ size c.type = c.words in
-      formed_refused (atom_type Σ at (constA n)) type_too_long at (at + 1) ws (constant_is ∙ measured_long at c.type (omega arith))
+      formed_refused (atom_type Σ at (constA n)) type_too_long at (at + 1) ws (constant_is ∙ measured_long at c.type (omega arith)) t
 
   pub constant_copied : {new : List ℕ} → get_or sig (get_or table n 0 - 1) 0 ≤ most_type_words
       → new ≡ written_at ws 0 (take (get_or sig (get_or table n 0 - 1) 0) (drop (get_or table n 0) sig))
-      → TypeFormed (atom_type Σ at (constA n)) (at + 1) ws new (Typed (get_or sig (get_or table n 0 - 1) 0) (at + 1))
+      → TypeFormed (atom_type Σ at (constA n)) (at + 1) ws new (Ok (record { words = get_or sig (get_or table n 0 - 1) 0; end = at + 1 }))
   constant_copied {new} l e =
       let w : get_or sig (get_or table n 0 - 1) 0 ≡ size c.type = c.words in
       writes (atom_type Σ at (constA n)) c.type (get_or sig (get_or table n 0 - 1) 0) (at + 1) ws ws new

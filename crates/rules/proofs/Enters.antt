@@ -2,7 +2,7 @@
 use Prim.Native.Nat.{ℕ, suc, ◌+◌, ◌-◌, ◌≤◌}
 use native.Mathlib.Omega.{arith}
 use mathlib.Core.Path.{◌≡◌, refl, sym, ap, ap₂, subst, ◌∙◌}
-use mathlib.Core.Logic.{inl, inr}
+use mathlib.Core.Logic.{◌⊎◌, inl, inr}
 use mathlib.Core.Bool.{Bool, true, false, ◌||◌}
 use mathlib.Core.List.{List, [], ◌∷◌, ◌++◌}
 use mathlib.Core.Option.{Option, some, none}
@@ -12,9 +12,9 @@ use lib.IntN.{pos}
 use Rattle.logic.specs.Limits.{most_type_words}
 use Rattle.logic.specs.Refusals.{condition_fails, not_a_function}
 use Rattle.logic.specs.Result.{Result, ok, refused, ◌>>◌, known}
-use Rattle.logic.specs.Tags.{tag_app, tag_bind, tag_kindP, tag_kindT}
+use Rattle.logic.specs.Tags.{tag_kindP, tag_kindT}
 use Rattle.logic.specs.Term.{propA, typeA, kindPA, Op, saysO, piO, lamO, appO, retO, bindO, Op-discrete, Term, atom, var, sign, node, N, Says, word}
-use Rattle.logic.specs.Term.{tag_of, atom_word, op_word, encode, size, first_word}
+use Rattle.logic.specs.Term.{atom_word, op_word, encode, size, first_word}
 use Rattle.logic.specs.Move.{raise}
 use Rattle.logic.specs.Reading.{branch, word_shape, PlainType}
 use Rattle.logic.specs.Infer.{same, condition, domain, Parts, parts}
@@ -22,7 +22,6 @@ use Rattle.logic.proofs.Basics.{clash}
 use Rattle.logic.proofs.Results.{then_is}
 use Rattle.logic.proofs.Stopped.{stop_then}
 use Rattle.logic.proofs.Words.{head, shape_first, encode_size, shape_op, node_plain, op_below}
-use Rattle.logic.specs.Kind.{kind_binder, op_kind, shape_kind}
 use Rattle.words.specs.Place.{At, written_at}
 use Rattle.moves.specs.Shift.{Shifted}
 use Rattle.moves.specs.declared.shift.Shift.{Shift}
@@ -33,8 +32,12 @@ use Rattle.moves.proofs.Shifts.{length_shift}
 use Rattle.rules.specs.Rule.{ready}
 use Rattle.rules.specs.Scope.{tail, entry_head, binder_entry}
 use Rattle.rules.specs.Form.{front_words, level_words}
-use Rattle.rules.specs.Enter.{Enters, keep_of, entered_answer, EntryKept, Entering, Kept, Keepable}
-use Rattle.rules.specs.declared.enter.Entered.TheVariants.{Fits, Refused}
+use Rattle.rules.specs.Enter.{Enters, keep_of, EntryKept, Entering, Kept, Keepable}
+use Rattle.std.specs.Prelude.{Ok}
+use Rattle.std.specs.Prelude.{Result as Answer}
+use Rattle.logic.specs.Answer.{answer as told}
+use Rattle.logic.specs.declared.refusal.Refusal.{Refusal}
+use Rattle.rules.specs.declared.enter.Entered.{Entered}
 use Rattle.rules.proofs.Fronts.{atom_first, type_part}
 use Rattle.rules.proofs.Kepts.{kept_tail, kept_type, kept_none}
 
@@ -156,59 +159,60 @@ record Rule (o : Op) (at : ℕ) (a A : Term) (n : ℕ) (test : Result (Unit {0})
 abbrev node_test : (m : ℕ) → Op → ℕ → Term → Result (Unit {0})
 node_test m h at A = known m at (parts h A) >> ok tt
 
-app_rule : (o : Op) (at : ℕ) (a A : Term) (n w : ℕ) → w ≡ op_word o → tag_of w ≡ tag_app → Rule o at a A n (node_test not_a_function piO at A) [] n
+-- the nodes by their words
+app_rule : (o : Op) (at : ℕ) (a A : Term) (n : ℕ) → op_word o ≡ op_word appO → Rule o at a A n (node_test not_a_function piO at A) [] n
 unfolding ready
-app_rule saysO at a A n w e t = absurd (omega arith)
-app_rule piO at a A n w e t = absurd (omega arith)
-app_rule lamO at a A n w e t = absurd (omega arith)
-app_rule appO at a A n w e t = record { tests = refl; keeps = refl; front = refl }
-app_rule retO at a A n w e t = absurd (omega arith)
-app_rule bindO at a A n w e t = absurd (omega arith)
+app_rule saysO at a A n e = absurd (omega arith)
+app_rule piO at a A n e = absurd (omega arith)
+app_rule lamO at a A n e = absurd (omega arith)
+app_rule appO at a A n e = record { tests = refl; keeps = refl; front = refl }
+app_rule retO at a A n e = absurd (omega arith)
+app_rule bindO at a A n e = absurd (omega arith)
 
-bind_rule : (o : Op) (at : ℕ) (a A : Term) (n w : ℕ) → w ≡ op_word o → tag_of w ≡ tag_bind
+bind_rule : (o : Op) (at : ℕ) (a A : Term) (n : ℕ) → op_word o ≡ op_word bindO
     → Rule o at a A n (node_test condition_fails saysO at A) (binder_entry bindO at a A) 0
 unfolding ready
-bind_rule saysO at a A n w e t = absurd (omega arith)
-bind_rule piO at a A n w e t = absurd (omega arith)
-bind_rule lamO at a A n w e t = absurd (omega arith)
-bind_rule appO at a A n w e t = absurd (omega arith)
-bind_rule retO at a A n w e t = absurd (omega arith)
-bind_rule bindO at a A n w e t = record { tests = refl; keeps = refl; front = refl }
+bind_rule saysO at a A n e = absurd (omega arith)
+bind_rule piO at a A n e = absurd (omega arith)
+bind_rule lamO at a A n e = absurd (omega arith)
+bind_rule appO at a A n e = absurd (omega arith)
+bind_rule retO at a A n e = absurd (omega arith)
+bind_rule bindO at a A n e = record { tests = refl; keeps = refl; front = refl }
 
-kind_op : (o : Op) → shape_kind (word_shape (op_word o)) ≡ op_kind o
-kind_op o = ap shape_kind (shape_op o)
+neither : {X Y : Type 0} → X ⊎ Y → (X → ⊥) → (Y → ⊥) → ⊥
+neither e f g = elim e [ inl x ↦ f x | inr y ↦ g y ]
 
 -- of Pi and Lam
-binder_rule : (o : Op) (at : ℕ) (a A : Term) (n w : ℕ) → w ≡ op_word o → (tag_of w ≡ tag_bind → ⊥) → op_kind o ≡ kind_binder
+binder_rule : (o : Op) (at : ℕ) (a A : Term) (n : ℕ) → (op_word o ≡ op_word piO) ⊎ (op_word o ≡ op_word lamO)
     → Rule o at a A n (condition at (domain A)) (entry_head ∷ (at + 1) ∷ size a ∷ []) 0
 unfolding ready
-binder_rule saysO at a A n w e q k = absurd (omega arith)
-binder_rule piO at a A n w e q k = record { tests = refl; keeps = refl; front = refl }
-binder_rule lamO at a A n w e q k = record { tests = refl; keeps = refl; front = refl }
-binder_rule appO at a A n w e q k = absurd (omega arith)
-binder_rule retO at a A n w e q k = absurd (omega arith)
-binder_rule bindO at a A n w e q k = absurd (q (omega arith))
+binder_rule saysO at a A n e = absurd (neither e (λ i. omega arith) (λ i. omega arith))
+binder_rule piO at a A n e = record { tests = refl; keeps = refl; front = refl }
+binder_rule lamO at a A n e = record { tests = refl; keeps = refl; front = refl }
+binder_rule appO at a A n e = absurd (neither e (λ i. omega arith) (λ i. omega arith))
+binder_rule retO at a A n e = absurd (neither e (λ i. omega arith) (λ i. omega arith))
+binder_rule bindO at a A n e = absurd (neither e (λ i. omega arith) (λ i. omega arith))
 
 -- of Says and Ret
-plain_rule : (o : Op) (at : ℕ) (a A : Term) (n w : ℕ) → w ≡ op_word o → (tag_of w ≡ tag_app → ⊥) → (op_kind o ≡ kind_binder → ⊥)
-    → Rule o at a A n (condition at (same A N)) [] 0
+plain_rule : (o : Op) (at : ℕ) (a A : Term) (n : ℕ) → (op_word o ≡ op_word appO → ⊥) → (op_word o ≡ op_word bindO → ⊥) → (op_word o ≡ op_word piO → ⊥)
+    → (op_word o ≡ op_word lamO → ⊥) → Rule o at a A n (condition at (same A N)) [] 0
 unfolding ready
-plain_rule saysO at a A n w e q k = record { tests = refl; keeps = refl; front = refl }
-plain_rule piO at a A n w e q k = absurd (k refl)
-plain_rule lamO at a A n w e q k = absurd (k refl)
-plain_rule appO at a A n w e q k = absurd (q (omega arith))
-plain_rule retO at a A n w e q k = record { tests = refl; keeps = refl; front = refl }
-plain_rule bindO at a A n w e q k = absurd (k refl)
+plain_rule saysO at a A n p q r s = record { tests = refl; keeps = refl; front = refl }
+plain_rule piO at a A n p q r s = absurd (r refl)
+plain_rule lamO at a A n p q r s = absurd (s refl)
+plain_rule appO at a A n p q r s = absurd (p refl)
+plain_rule retO at a A n p q r s = record { tests = refl; keeps = refl; front = refl }
+plain_rule bindO at a A n p q r s = absurd (q refl)
 
 module _ {o : Op} {at : ℕ} {a A : Term} {n : ℕ} {test : Result (Unit {0})} {xs : List ℕ} {keep : ℕ} (rule : Rule o at a A n test xs keep) where
   passes : (used : ℕ) (old new : List ℕ) (r : ℕ) → test ≡ ok tt → Kept xs used old new r → used + length xs + size A ≤ length old → TypeAt old 0 A
-      → Entering o at a A n used old new (Fits keep r)
+      → Entering o at a A n used old new (Ok (record { keep = keep; used = r }))
   passes used old new r e k l h =
       let x : binder_entry o at a A ≡ xs = rule.keeps in
       let t = rule.tests ∙ e in
       record {
         answer =
-            ap₂ (λ (i j : ℕ). entered_answer at (Fits i j)) (sym rule.front) (k.count ∙ ap (λ (y : List ℕ). used + length y) (sym x))
+            ap₂ (λ (i j : ℕ). ok (record { keep = i; used = j })) (sym rule.front) (k.count ∙ ap (λ (y : List ℕ). used + length y) (sym x))
             ∙ sym (then_is _ t refl);
         kept = subst (λ (u : Result (Unit {0})). EntryKept u o at a A used old new) (sym t) (
           ap (λ (y : List ℕ). tail (used + length y) new) x ∙ kept_tail xs old new used r (omega arith) k ∙ ap (λ (y : List ℕ). y ++ tail used old) (sym x),
@@ -216,10 +220,10 @@ module _ {o : Op} {at : ℕ} {a A : Term} {n : ℕ} {test : Result (Unit {0})} {
         );
       }
 
-  fails : {m : ℕ} (used : ℕ) (old : List ℕ) → test ≡ refused m at → Entering o at a A n used old old (Refused m)
-  fails used old e =
+  fails : {m : ℕ} {r : Answer Entered Refusal} (used : ℕ) (old : List ℕ) → test ≡ refused m at → told r ≡ refused m at → Entering o at a A n used old old r
+  fails {r} used old e q =
       let t = rule.tests ∙ e in
-      record { answer = sym (stop_then _ t); kept = subst (λ (u : Result (Unit {0})). EntryKept u o at a A used old old) (sym t) refl }
+      record { answer = q ∙ sym (stop_then _ t); kept = subst (λ (u : Result (Unit {0})). EntryKept u o at a A used old old) (sym t) refl }
 
 -- ---- the answers
 
@@ -229,7 +233,8 @@ module _ {proof ws : List ℕ} {at next n : ℕ} {o : Op} {a A : Term} (used : �
   front_first = words_head ws 0 A j.type.rest j.type.words
 
   -- nothing is kept at the end
-  passes_none : {test : Result (Unit {0})} {keep : ℕ} → Rule o at a A n test [] keep → test ≡ ok tt → Entering o at a A n used ws ws (Fits keep used)
+  passes_none : {test : Result (Unit {0})} {keep : ℕ} → Rule o at a A n test [] keep → test ≡ ok tt
+      → Entering o at a A n used ws ws (Ok (record { keep = keep; used = used }))
   passes_none rule e = let w : n ≡ size A = j.type_words in passes rule used ws ws used e (kept_none ws used) (omega arith) j.type
 
   node_passes : (m : ℕ) (h : Op) → get_or ws 0 0 ≡ op_word h → node_test m h at A ≡ ok tt
@@ -240,11 +245,12 @@ module _ {proof ws : List ℕ} {at next n : ℕ} {o : Op} {a A : Term} (used : �
   node_fails : (m : ℕ) (h : Op) → (get_or ws 0 0 ≡ op_word h → ⊥) → node_test m h at A ≡ refused m at
   node_fails m h q = ap (λ (x : Option Parts). known m at x >> ok tt) (parts_none h A λ e. q (front_first ∙ e))
 
-  pub app_passes : tag_of (get_or proof at 0) ≡ tag_app → get_or ws 0 0 ≡ op_word piO → Entering o at a A n used ws ws (Fits n used)
-  app_passes t e = passes_none (app_rule o at a A n _ j.head t) (node_passes _ piO e)
+  pub app_passes : get_or proof at 0 ≡ op_word appO → get_or ws 0 0 ≡ op_word piO → Entering o at a A n used ws ws (Ok (record { keep = n; used = used }))
+  app_passes t e = passes_none (app_rule o at a A n (sym j.head ∙ t)) (node_passes _ piO e)
 
-  pub app_fails : tag_of (get_or proof at 0) ≡ tag_app → (get_or ws 0 0 ≡ op_word piO → ⊥) → Entering o at a A n used ws ws (Refused not_a_function)
-  app_fails t q = fails (app_rule o at a A n _ j.head t) used ws (node_fails _ piO q)
+  pub app_fails : {r : Answer Entered Refusal} → get_or proof at 0 ≡ op_word appO → (get_or ws 0 0 ≡ op_word piO → ⊥) → told r ≡ refused not_a_function at
+      → Entering o at a A n used ws ws r
+  app_fails t q f = fails (app_rule o at a A n (sym j.head ∙ t)) used ws (node_fails _ piO q) f
 
   -- what `keep_says` asks
   pub bind_keeps : get_or ws 0 0 ≡ op_word saysO → Keepable ws used n
@@ -259,9 +265,9 @@ module _ {proof ws : List ℕ} {at next n : ℕ} {o : Op} {a A : Term} (used : �
         room = room;
       }
 
-  pub bind_passes : {new : List ℕ} {r : ℕ} → tag_of (get_or proof at 0) ≡ tag_bind → get_or ws 0 0 ≡ op_word saysO
+  pub bind_passes : {new : List ℕ} {r : ℕ} → get_or proof at 0 ≡ op_word bindO → get_or ws 0 0 ≡ op_word saysO
       → ((i : ℕ) (b p q : Term) → TypeAt ws 0 (Says p q) → n ≡ size (Says p q) → Kept (binder_entry bindO i b (Says p q)) used ws new r)
-      → Entering o at a A n used ws new (Fits 0 r)
+      → Entering o at a A n used ws new (Ok (record { keep = 0; used = r }))
   bind_passes {new} {r} t e f =
       let i = node_of saysO A j.type.plain (sym front_first ∙ e) in
       let p : Term = i.left in
@@ -271,14 +277,14 @@ module _ {proof ws : List ℕ} {at next n : ℕ} {o : Op} {a A : Term} (used : �
       (f at a p q (subst (TypeAt ws 0) i.is j.type) (w ∙ ap size i.is)) in
       let l : length (binder_entry bindO at a A) ≡ entry_head + size A = ap (λ (B : Term). length (binder_entry bindO at a B)) i.is ∙ bind_length at a p q
       ∙ ap (λ (B : Term). entry_head + size B) (sym i.is) in
-      passes (bind_rule o at a A n _ j.head t) used ws new r (node_passes _ saysO e) k (omega arith) j.type
+      passes (bind_rule o at a A n (sym j.head ∙ t)) used ws new r (node_passes _ saysO e) k (omega arith) j.type
 
-  pub bind_fails : tag_of (get_or proof at 0) ≡ tag_bind → (get_or ws 0 0 ≡ op_word saysO → ⊥) → Entering o at a A n used ws ws (Refused condition_fails)
-  bind_fails t q = fails (bind_rule o at a A n _ j.head t) used ws (node_fails _ saysO q)
+  pub bind_fails : {r : Answer Entered Refusal} → get_or proof at 0 ≡ op_word bindO → (get_or ws 0 0 ≡ op_word saysO → ⊥)
+      → told r ≡ refused condition_fails at → Entering o at a A n used ws ws r
+  bind_fails t q f = fails (bind_rule o at a A n (sym j.head ∙ t)) used ws (node_fails _ saysO q) f
 
-  -- what `kind` answers
-  kind_found : (k : ℕ) → k ≡ shape_kind (word_shape (get_or proof at 0)) → op_kind o ≡ k
-  kind_found k e = sym (e ∙ ap (λ (w : ℕ). shape_kind (word_shape w)) j.head ∙ kind_op o)
+  named : (get_or proof at 0 ≡ op_word piO) ⊎ (get_or proof at 0 ≡ op_word lamO) → (op_word o ≡ op_word piO) ⊎ (op_word o ≡ op_word lamO)
+  named e = elim e [ inl x ↦ inl (sym j.head ∙ x) | inr x ↦ inr (sym j.head ∙ x) ]
 
   -- what `domain` answers
   abbrev Answers : Bool → Type 0
@@ -287,31 +293,35 @@ module _ {proof ws : List ℕ} {at next n : ℕ} {o : Op} {a A : Term} (used : �
   domain_is : (b : Bool) → Answers b → b ≡ domain A
   domain_is b f = f A j.type.plain front_first
 
-  pub binder_passes : {new : List ℕ} {r k : ℕ} {b : Bool} → (tag_of (get_or proof at 0) ≡ tag_bind → ⊥) → k ≡ shape_kind (word_shape (get_or proof at 0))
-      → k ≡ kind_binder
-      → b ≡ true → Answers b → Kept (entry_head ∷ (at + 1) ∷ (next - (at + 1)) ∷ []) used ws new r → Entering o at a A n used ws new (Fits 0 r)
-  binder_passes {new} {r} {k} {b} t e i d f g =
+  pub binder_passes : {new : List ℕ} {r : ℕ} {b : Bool} → (get_or proof at 0 ≡ op_word piO) ⊎ (get_or proof at 0 ≡ op_word lamO) → b ≡ true → Answers b
+      → Kept (entry_head ∷ (at + 1) ∷ (next - (at + 1)) ∷ []) used ws new r → Entering o at a A n used ws new (Ok (record { keep = 0; used = r }))
+  binder_passes {new} {r} {b} e d f g =
       let w : n ≡ size A = j.type_words in
       let x : next ≡ at + 1 + size a = j.next_is in
       let y : next - (at + 1) ≡ size a = omega arith in
-      passes (binder_rule o at a A n _ j.head t (kind_found k e ∙ i)) used ws new r
+      passes (binder_rule o at a A n (named e)) used ws new r
       (ap (condition at) (sym (domain_is b f) ∙ d))
       (subst (λ (m : ℕ). Kept (entry_head ∷ (at + 1) ∷ m ∷ []) used ws new r) y g)
       (omega arith)
       j.type
 
-  pub binder_fails : {k : ℕ} {b : Bool} → (tag_of (get_or proof at 0) ≡ tag_bind → ⊥) → k ≡ shape_kind (word_shape (get_or proof at 0)) → k ≡ kind_binder
-      → b ≡ false
-      → Answers b → Entering o at a A n used ws ws (Refused condition_fails)
-  binder_fails {k} {b} t e i d f = fails (binder_rule o at a A n _ j.head t (kind_found k e ∙ i)) used ws (ap (condition at) (sym (domain_is b f) ∙ d))
+  pub binder_fails : {r : Answer Entered Refusal} {b : Bool} → (get_or proof at 0 ≡ op_word piO) ⊎ (get_or proof at 0 ≡ op_word lamO) → b ≡ false → Answers b
+      → told r ≡ refused condition_fails at → Entering o at a A n used ws ws r
+  binder_fails {b} e d f t = fails (binder_rule o at a A n (named e)) used ws (ap (condition at) (sym (domain_is b f) ∙ d)) t
 
-  pub plain_passes : {k : ℕ} {b : Bool} → (tag_of (get_or proof at 0) ≡ tag_app → ⊥) → k ≡ shape_kind (word_shape (get_or proof at 0))
-      → (k ≡ kind_binder → ⊥)
-      → b ≡ true
-      → b ≡ same A N → Entering o at a A n used ws ws (Fits 0 used)
-  plain_passes {k} t e q d f = passes_none (plain_rule o at a A n _ j.head t (λ i. q (sym (kind_found k e) ∙ i))) (ap (condition at) (sym f ∙ d))
+  -- the word is of none of four nodes
+  pub record Plain : Type 0 where
+    pub no_app : get_or proof at 0 ≡ op_word appO → ⊥
+    pub no_bind : get_or proof at 0 ≡ op_word bindO → ⊥
+    pub no_pi : get_or proof at 0 ≡ op_word piO → ⊥
+    pub no_lam : get_or proof at 0 ≡ op_word lamO → ⊥
 
-  pub plain_fails : {k : ℕ} {b : Bool} → (tag_of (get_or proof at 0) ≡ tag_app → ⊥) → k ≡ shape_kind (word_shape (get_or proof at 0)) → (k ≡ kind_binder → ⊥)
-      → b ≡ false
-      → b ≡ same A N → Entering o at a A n used ws ws (Refused condition_fails)
-  plain_fails {k} t e q d f = fails (plain_rule o at a A n _ j.head t (λ i. q (sym (kind_found k e) ∙ i))) used ws (ap (condition at) (sym f ∙ d))
+  plain_is : Plain → Rule o at a A n (condition at (same A N)) [] 0
+  plain_is p = plain_rule o at a A n (λ e. p.no_app (j.head ∙ e)) (λ e. p.no_bind (j.head ∙ e)) (λ e. p.no_pi (j.head ∙ e)) (λ e. p.no_lam (j.head ∙ e))
+
+  pub plain_passes : {b : Bool} → Plain → b ≡ true → b ≡ same A N → Entering o at a A n used ws ws (Ok (record { keep = 0; used = used }))
+  plain_passes p d f = passes_none (plain_is p) (ap (condition at) (sym f ∙ d))
+
+  pub plain_fails : {r : Answer Entered Refusal} {b : Bool} → Plain → b ≡ false → b ≡ same A N → told r ≡ refused condition_fails at
+      → Entering o at a A n used ws ws r
+  plain_fails p d f t = fails (plain_is p) used ws (ap (condition at) (sym f ∙ d)) t

@@ -25,9 +25,12 @@ use Rattle.words.proofs.Lists.{length_head}
 use Rattle.words.proofs.Places.{words_head}
 use Rattle.words.proofs.Sames.{same_test}
 use Rattle.words.proofs.Types.{in_range}
-use Rattle.rules.specs.Form.{derivation_answer, type_and_end, front_words, TypeFormed}
-use Rattle.rules.specs.declared.derivation.Derivation.{Derivation}
-use Rattle.rules.specs.declared.derivation.Derivation.TheVariants.{Typed, Refused}
+use Rattle.rules.specs.Form.{type_and_end, front_words, TypeFormed}
+use Rattle.std.specs.Prelude.{Ok}
+use Rattle.std.specs.Prelude.{Result as Answer}
+use Rattle.logic.specs.Answer.{answer as told}
+use Rattle.logic.specs.declared.refusal.Refusal.{Refusal}
+use Rattle.rules.specs.declared.typed.Typed.{Typed}
 
 -- ---- a type that is an atom
 
@@ -75,25 +78,26 @@ measured_fits at A l = simp (le-leb (size A) most_type_words l)
 pub measured_long : (at : ℕ) (A : Term) → most_type_words < size A → measured at A ≡ refused type_too_long at
 measured_long at A l = simp (lt-leb (size A) most_type_words l)
 
--- a refusal writes nothing
 -- a refusal, whatever stands at the front
-pub formed_refusal : (o : Result Term) (m p end : ℕ) (ws new : List ℕ) → o ≡ refused m p → drop front_words new ≡ drop front_words ws
-    → TypeFormed o end ws new (Refused m p)
-formed_refusal o m p end ws new e r =
-    subst (λ (o : Result Term). TypeFormed o end ws new (Refused m p)) (sym e) (record { answer = refl; front = tt; rest = r })
+pub formed_refusal : {r : Answer Typed Refusal} (o : Result Term) (m p end : ℕ) (ws new : List ℕ) → o ≡ refused m p → told r ≡ refused m p
+    → drop front_words new ≡ drop front_words ws → TypeFormed o end ws new r
+formed_refusal {r} o m p end ws new e t k = subst (λ (o : Result Term). TypeFormed o end ws new r) (sym e) (record { answer = t; front = tt; rest = k })
 
-pub formed_refused : (o : Result Term) (m p end : ℕ) (ws : List ℕ) → o ≡ refused m p → TypeFormed o end ws ws (Refused m p)
-formed_refused o m p end ws e = formed_refusal o m p end ws ws e refl
+-- a refusal that writes nothing
+pub formed_refused : {r : Answer Typed Refusal} (o : Result Term) (m p end : ℕ) (ws : List ℕ) → o ≡ refused m p → told r ≡ refused m p
+    → TypeFormed o end ws ws r
+formed_refused o m p end ws e t = formed_refusal o m p end ws ws e t refl
 
 pub formed_typed : (o : Result Term) (A : Term) (words end : ℕ) (ws new : List ℕ) → o ≡ ok A → words ≡ size A → TypeAt new 0 A
-    → drop front_words new ≡ drop front_words ws → TypeFormed o end ws new (Typed words end)
+    → drop front_words new ≡ drop front_words ws → TypeFormed o end ws new (Ok (record { words = words; end = end }))
 formed_typed o A words end ws new e s h r =
-    subst (λ (o : Result Term). TypeFormed o end ws new (Typed words end)) (sym e)
-    (record { answer = ap (λ (w : ℕ). derivation_answer (Typed w end)) s; front = h; rest = r })
+    subst (λ (o : Result Term). TypeFormed o end ws new (Ok (record { words = words; end = end }))) (sym e)
+    (record { answer = ap (λ (w : ℕ). ok (record { words = w; end = end })) s; front = h; rest = r })
 
 -- the words of the type were written at the front, after others that left the rest
 pub writes : (o : Result Term) (A : Term) (words end : ℕ) (ws mid new : List ℕ) → o ≡ ok A → words ≡ size A → size A ≤ most_type_words → PlainType A
-    → drop front_words mid ≡ drop front_words ws → new ≡ written_at mid 0 (encode A) → TypeFormed o end ws new (Typed words end)
+    → drop front_words mid ≡ drop front_words ws → new ≡ written_at mid 0 (encode A)
+    → TypeFormed o end ws new (Ok (record { words = words; end = end }))
 writes o A words end ws mid new e s l p k w =
     let z : length (encode A) ≡ size A = encode_size A in
     formed_typed o A words end ws new e s (record { plain = p; rest = drop (0 + length (encode A)) mid; words = w })
@@ -101,11 +105,11 @@ writes o A words end ws mid new e s l p k w =
 
 -- ---- what an answer tells
 
-module _ {r : Derivation} (o : Result Term) (end : ℕ) (e : derivation_answer r ≡ type_and_end o end) where
-  pub refused_by : (m p : ℕ) → r ≡ Refused m p → o ≡ refused m p
-  refused_by m p q = not_mapped (λ A. (size A, end)) o (sym e ∙ ap derivation_answer q)
+module _ (r : Answer Typed Refusal) (o : Result Term) (end : ℕ) (e : told r ≡ type_and_end o end) where
+  pub refused_by : (m p : ℕ) → told r ≡ refused m p → o ≡ refused m p
+  refused_by m p q = not_mapped (λ A. record { words = size A; end = end }) o (sym e ∙ q)
 
-  pub typed_by : {Z : Type 0} (words last : ℕ) → r ≡ Typed words last → ((A : Term) → o ≡ ok A → words ≡ size A → last ≡ end → Z) → Z
-  typed_by words last q f = bound o _ (sym e ∙ ap derivation_answer q) λ A i j.
-      let v : ◌≡◌ {A = ℕ × ℕ} (size A, end) (words, last) = ok_inj j in
-      f A i (sym (ap (λ (x : ℕ × ℕ). x.0) v)) (sym (ap (λ (x : ℕ × ℕ). x.1) v))
+  pub typed_by : {Z : Type 0} (t : Typed) → told r ≡ ok t → ((A : Term) → o ≡ ok A → t.words ≡ size A → t.end ≡ end → Z) → Z
+  typed_by t q g = bound o _ (sym e ∙ q) λ A i j.
+      let v : ◌≡◌ {A = Typed} (record { words = size A; end = end }) t = ok_inj j in
+      g A i (sym (ap (λ (x : Typed). x.words) v)) (sym (ap (λ (x : Typed). x.end) v))

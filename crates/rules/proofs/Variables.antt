@@ -12,9 +12,9 @@ use lib.IntN.{ℤ, pos, ◌+ℤ◌, nat_abs}
 use mir.Syntax.{w32}
 use mir.Val.{SFits, to_z, of_z}
 use mir.Facts.{to_z-of_z, to_z_pos}
-use Rattle.logic.specs.Limits.{payloads, most_type_words}
+use Rattle.logic.specs.Limits.{payloads, most_words, most_type_words}
 use Rattle.logic.specs.Refusals.{unbound_variable, type_too_long}
-use Rattle.logic.specs.Result.{Result, ok, ◌>>=◌, known}
+use Rattle.logic.specs.Result.{Result, ok, refused, ◌>>=◌, known}
 use Rattle.logic.specs.Term.{Term, encode, size}
 use Rattle.logic.specs.Move.{shift, raise}
 use Rattle.logic.specs.Reading.{PlainType}
@@ -24,14 +24,17 @@ use Rattle.words.specs.Lookup.{part_of}
 use Rattle.moves.specs.Shift.{Shifted}
 use Rattle.moves.specs.declared.shift.Shift.{Shift}
 use Rattle.words.proofs.Lists.{written_front}
-use Rattle.words.proofs.Places.{part_is}
+use Rattle.words.proofs.Places.{part_is, at_end}
 use Rattle.moves.proofs.Shifts.{size_shift, length_shift}
 use Rattle.rules.specs.Rule.{variable_type}
 use Rattle.rules.specs.Scope.{tail, scope_words, entry_head}
-use Rattle.rules.specs.Form.{TypeFormed}
-use Rattle.rules.specs.Variable.{BinderFound, Raises}
-use Rattle.rules.specs.declared.derivation.Derivation.{Derivation}
-use Rattle.rules.specs.declared.derivation.Derivation.TheVariants.{Typed, Refused}
+use Rattle.rules.specs.Form.{front_words, TypeFormed}
+use Rattle.rules.specs.Variable.{BinderFound, Raises, Raisable}
+use Rattle.std.specs.Prelude.{Ok}
+use Rattle.std.specs.Prelude.{Result as Answer}
+use Rattle.logic.specs.Answer.{answer as told}
+use Rattle.logic.specs.declared.refusal.Refusal.{Refusal}
+use Rattle.rules.specs.declared.typed.Typed.{Typed}
 use Rattle.rules.proofs.Fronts.{measured_fits, measured_long, formed_refused, writes}
 use Rattle.words.proofs.Lists.{drop_take}
 use Rattle.rules.proofs.Scopes.{scope_length, entry_at, no_binders}
@@ -41,12 +44,6 @@ first_of_rest [] zero = refl
 first_of_rest [] (suc n) = refl
 first_of_rest (A ∷ Γ) zero = refl
 first_of_rest (A ∷ Γ) (suc n) = first_of_rest Γ n
-
-pub cond_true : (b : Bool) (x y : ℕ) {r : ℕ} → b ≡ true → r ≡ x → r ≡ cond b x y
-cond_true b x y e q = q ∙ ap (λ (b : Bool). cond b x y) (sym e)
-
-pub cond_false : (b : Bool) (x y : ℕ) {r : ℕ} → b ≡ false → r ≡ y → r ≡ cond b x y
-cond_false b x y e q = q ∙ ap (λ (b : Bool). cond b x y) (sym e)
 
 pub cond_length : (b : Bool) (x y : List ℕ) → length (cond b x y) ≤ length x + length y
 cond_length true x y = omega arith
@@ -83,14 +80,13 @@ in_scope : (b : Bool) (proof ws : List ℕ) (floor kept i start : ℕ) (A : Term
 in_scope true proof ws floor kept i start A h = at_inside ws (length ws - kept) (kept - floor) i A h
 in_scope false proof ws floor kept i start A h = h
 
-pub entry_of : {proof ws : List ℕ} {floor used n kept : ℕ} {Γ : List Term} → used ≤ length ws → (kept ≡ floor → ⊥) → BinderFound proof ws floor used n Γ kept
+pub entry_of : {proof ws : List ℕ} {floor used n kept : ℕ} {Γ : List Term} → used ≤ length ws → floor < kept → BinderFound proof ws floor used n Γ kept
     → Entry proof ws kept n Γ
 entry_of {proof} {ws} {floor} {used} {n} {kept} {Γ} l q f =
     let least : floor ≤ kept = f.least in
     let most : kept ≤ used = f.most in
-    let less : floor < kept = omega arith in
     let b : kept ≤ length ws = omega arith in
-    let e = entry_at proof ws floor kept (drop n Γ) less b f.binders in
+    let e = entry_at proof ws floor kept (drop n Γ) q b f.binders in
     let i : get_or ws (length ws - kept) 0 ≤ length (scope_words floor kept ws) = e.inside in
     let s : length (scope_words floor kept ws) ≡ kept - floor = scope_length floor kept ws b in
     record {
@@ -104,16 +100,37 @@ entry_of {proof} {ws} {floor} {used} {n} {kept} {Γ} l q f =
       here = in_scope (ltb entry_head (get_or ws (length ws - kept) 0)) proof ws floor kept _ _ e.type e.here;
     }
 
+-- the workspace has room
+pub entry_here : {proof ws : List ℕ} {floor used n kept : ℕ} {Γ : List Term} → used + front_words ≤ length ws
+    → (floor < kept) × BinderFound proof ws floor used n Γ kept → Entry proof ws kept n Γ
+entry_here l f = entry_of (omega arith) f.0 f.1
+
+-- where the type's words stand
+abbrev pub FromIs : List ℕ → (kept from : ℕ) → Type 0
+FromIs ws kept from =
+    from ≡ cond (ltb entry_head (get_or ws (length ws - kept) 0)) (length ws - kept + (get_or ws (length ws - kept) 0 - get_or ws (length ws - kept + 2) 0))
+    (get_or ws (length ws - kept + 1) 0)
+
+pub from_workspace : (ws : List ℕ) (kept : ℕ) {from : ℕ} → ltb entry_head (get_or ws (length ws - kept) 0) ≡ true
+    → from ≡ length ws - kept + (get_or ws (length ws - kept) 0 - get_or ws (length ws - kept + 2) 0) → FromIs ws kept from
+from_workspace ws kept e q = q ∙ ap (λ (b : Bool). cond b (length ws - kept + (get_or ws (length ws - kept) 0 - get_or ws (length ws - kept + 2) 0))
+    (get_or ws (length ws - kept + 1) 0)) (sym e)
+
+pub from_proof : (ws : List ℕ) (kept : ℕ) {from : ℕ} → ltb entry_head (get_or ws (length ws - kept) 0) ≡ false → from ≡ get_or ws (length ws - kept + 1) 0
+    → FromIs ws kept from
+from_proof ws kept e q = q ∙ ap (λ (b : Bool). cond b (length ws - kept + (get_or ws (length ws - kept) 0 - get_or ws (length ws - kept + 2) 0))
+    (get_or ws (length ws - kept + 1) 0)) (sym e)
+
 -- ---- what the code answers
 
-pub variable_unbound : {proof ws : List ℕ} {floor used n kept : ℕ} {Γ : List Term} (at : ℕ) → kept ≡ floor → BinderFound proof ws floor used n Γ kept
-    → TypeFormed (variable_type Γ at n) (at + 1) ws ws (Refused unbound_variable at)
-variable_unbound {proof} {ws} {floor} {used} {n} {kept} {Γ} at e f =
-    let z : kept - floor ≡ 0 = omega arith in
-    let o : drop n Γ ≡ [] = no_binders proof (scope_words floor kept ws) (drop n Γ) (ap (λ (i : ℕ). take i (tail kept ws)) z) f.binders in
+pub variable_unbound : {proof ws : List ℕ} {floor used n : ℕ} {Γ : List Term} {r : Answer Typed Refusal} (at : ℕ)
+    → BinderFound proof ws floor used n Γ floor → told r ≡ refused unbound_variable at → TypeFormed (variable_type Γ at n) (at + 1) ws ws r
+variable_unbound {proof} {ws} {floor} {used} {n} {Γ} at f t =
+    let z : floor - floor ≡ 0 = omega arith in
+    let o : drop n Γ ≡ [] = no_binders proof (scope_words floor floor ws) (drop n Γ) (ap (λ (i : ℕ). take i (tail floor ws)) z) f.binders in
     let m : get_elem? Γ n ≡ none = sym (first_of_rest Γ n) ∙ ap (λ (Δ : List Term). get_elem? Δ 0) o in
     formed_refused (variable_type Γ at n) unbound_variable at (at + 1) ws
-    (ap (λ (o : Option Term). known unbound_variable at o >>= λ A. measured at (raise (suc n) A)) m)
+    (ap (λ (o : Option Term). known unbound_variable at o >>= λ A. measured at (raise (suc n) A)) m) t
 
 module _ {proof ws : List ℕ} {kept n : ℕ} {Γ : List Term} (at : ℕ) (e : Entry proof ws kept n Γ) where
   variable_is : variable_type Γ at n ≡ measured at (raise (suc n) e.type)
@@ -122,14 +139,14 @@ module _ {proof ws : List ℕ} {kept n : ℕ} {Γ : List Term} (at : ℕ) (e : E
   raised_words : size (raise (suc n) e.type) ≡ get_or ws (length ws - kept + 2) 0
   raised_words = size_shift 0 (pos (suc n)) e.type ∙ sym e.type_words
 
-  pub variable_long : most_type_words < get_or ws (length ws - kept + 2) 0 → TypeFormed (variable_type Γ at n) (at + 1) ws ws (Refused type_too_long at)
-  variable_long l =
+  pub variable_long : {r : Answer Typed Refusal} → most_type_words < get_or ws (length ws - kept + 2) 0 → told r ≡ refused type_too_long at
+      → TypeFormed (variable_type Γ at n) (at + 1) ws ws r
+  variable_long l t =
       let r : size (raise (suc n) e.type) ≡ get_or ws (length ws - kept + 2) 0 = raised_words in
-      formed_refused (variable_type Γ at n) type_too_long at (at + 1) ws (variable_is ∙ measured_long at (raise (suc n) e.type) (omega arith))
+      formed_refused (variable_type Γ at n) type_too_long at (at + 1) ws (variable_is ∙ measured_long at (raise (suc n) e.type) (omega arith)) t
 
   -- what is looked up is the type's words
-  pub looked_up : {from : ℕ} {part : List ℕ} → from ≡ cond (ltb entry_head (get_or ws (length ws - kept) 0))
-      (length ws - kept + (get_or ws (length ws - kept) 0 - get_or ws (length ws - kept + 2) 0)) (get_or ws (length ws - kept + 1) 0)
+  pub looked_up : {from : ℕ} {part : List ℕ} → FromIs ws kept from
       → part ≡ part_of proof ws (ltb entry_head (get_or ws (length ws - kept) 0)) from (from + get_or ws (length ws - kept + 2) 0) → Is part e.type
   looked_up {from} {part} f p =
       let b : Bool = ltb entry_head (get_or ws (length ws - kept) 0) in
@@ -137,7 +154,26 @@ module _ {proof ws : List ℕ} {kept n : ℕ} {Γ : List Term} (at : ℕ) (e : E
       subst (λ (x : List ℕ). Is x e.type) (sym p) (record
       { plain = h.plain; words = part_is (from + get_or ws (length ws - kept + 2) 0) h (ap (λ (k : ℕ). from + k) e.type_words) })
 
-  pub variable_found : {part new : List ℕ} {r : Derivation} → get_or ws (length ws - kept + 2) 0 ≤ most_type_words → Is part e.type
+  -- it may be raised
+  pub raisable : {from room : ℕ} (used : ℕ) → FromIs ws kept from → used + front_words ≤ length ws → get_or ws (length ws - kept + 2) 0 ≤ most_type_words
+      → get_or ws (length ws - kept + 2) 0 ≤ room → n < payloads → at < most_words
+      → Raisable proof ws (ltb entry_head (get_or ws (length ws - kept) 0)) from (get_or ws (length ws - kept + 2) 0) n at room
+  raisable {from} used f w s r m q =
+      let b : Bool = ltb entry_head (get_or ws (length ws - kept) 0) in
+      let h : At (cond b ws proof) from e.type = subst (λ (i : ℕ). At (cond b ws proof) i e.type) (sym f) e.here in
+      record {
+        type = e.type;
+        part = looked_up f refl;
+        inside = (omega arith, omega (arith, at_end h, e.type_words));
+        type_words = e.type_words;
+        small = s;
+        fits = r;
+        number = m;
+        place = q;
+        front = omega arith;
+      }
+
+  pub variable_found : {part new : List ℕ} {r : Answer Typed Refusal} → get_or ws (length ws - kept + 2) 0 ≤ most_type_words → Is part e.type
       → ((A : Term) → Is part A → PlainType (raise (suc n) A) → TypeFormed (ok (raise (suc n) A)) (at + 1) ws new r) → Raises Γ n
       → TypeFormed (variable_type Γ at n) (at + 1) ws new r
   variable_found {part} {new} {r} l i f h =
@@ -151,7 +187,7 @@ module _ {proof ws : List ℕ} {kept n : ℕ} {Γ : List Term} (at : ℕ) (e : E
 pub raised_front : {z : ℤ} {ws part zeros raised new : List ℕ} {n : ℕ} {w : Shift} (at : ℕ) (A : Term) → size A ≤ most_type_words
     → z ≡ pos (suc n) → Is part A → ((t : Term) → Is part t → Shifted t 0 z zeros 0 raised w)
     → new ≡ written_at ws 0 (take w.words raised) → PlainType (raise (suc n) A)
-    → TypeFormed (ok (raise (suc n) A)) (at + 1) ws new (Typed w.words (at + 1))
+    → TypeFormed (ok (raise (suc n) A)) (at + 1) ws new (Ok (record { words = w.words; end = at + 1 }))
 raised_front {z} {ws} {part} {zeros} {raised} {new} {n} {w} at A l y i f c h =
     let s = f A i in
     let r : size (raise (suc n) A) ≡ size A = size_shift 0 (pos (suc n)) A in

@@ -8,8 +8,10 @@ use Rattle.words.specs.Typed.{TypeAt}
 use Rattle.rules.specs.Rule.{ready}
 use Rattle.rules.specs.Scope.{tail, binder_entry}
 use Rattle.rules.specs.Form.{front_words, level_words}
+use Rattle.std.specs.Prelude.{Result as Answer}
+use Rattle.logic.specs.Answer.{answer as told}
+use Rattle.logic.specs.declared.refusal.Refusal.{Refusal}
 use Rattle.rules.specs.declared.enter.Entered.{Entered}
-use Rattle.rules.specs.declared.enter.Entered.TheVariants.{Fits, Refused}
 
 -- the first child a of a node o stands in the proof, and its type A at the front of the workspace
 pub record Enters (proof ws : List ℕ) (at next n : ℕ) (o : Op) (a A : Term) : Type 0 where
@@ -51,17 +53,12 @@ keep_of appO n = n
 keep_of retO n = 0
 keep_of bindO n = 0
 
--- number and values of each case, of a node at the place `at`: the words kept at the front and at the end
-abbrev pub entered_answer : (at : ℕ) → Entered → Result (ℕ × ℕ)
-entered_answer at (Fits keep used) = ok (keep, used)
-entered_answer at (Refused number) = refused number at
-
 -- the test passed: the entry of the binder, if any, is kept at the end, before what
 -- was; or it failed, and nothing was written
 abbrev pub EntryKept : Result (Unit {0}) → Op → ℕ → (a A : Term) → (used : ℕ) → (old new : List ℕ) → Type 0
 EntryKept (ok _) o at a A used old new = (tail (used + length (binder_entry o at a A)) new ≡ binder_entry o at a A ++ tail used old) × TypeAt new 0 A
 EntryKept (refused m p) o at a A used old new = new ≡ old
 
-pub record Entering (o : Op) (at : ℕ) (a A : Term) (n used : ℕ) (old new : List ℕ) (r : Entered) : Type 0 where
-  pub answer : entered_answer at r ≡ (ready o at A >> ok (keep_of o n, used + length (binder_entry o at a A)))
+pub record Entering (o : Op) (at : ℕ) (a A : Term) (n used : ℕ) (old new : List ℕ) (r : Answer Entered Refusal) : Type 0 where
+  pub answer : told r ≡ (ready o at A >> ok (record { keep = keep_of o n; used = used + length (binder_entry o at a A) }))
   pub kept : EntryKept (ready o at A) o at a A used old new

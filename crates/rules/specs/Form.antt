@@ -4,17 +4,14 @@ use Rattle.logic.specs.Limits.{most_type_words}
 use Rattle.logic.specs.Result.{Result, ok, refused, ◌>>=◌}
 use Rattle.logic.specs.Term.{Term, size}
 use Rattle.words.specs.Typed.{TypeAt}
-use Rattle.rules.specs.declared.derivation.Derivation.{Derivation}
-use Rattle.rules.specs.declared.derivation.Derivation.TheVariants.{Typed, Refused}
-
--- number, place and values of each case: the words of the type, and where the term ends
-abbrev pub derivation_answer : Derivation → Result (ℕ × ℕ)
-derivation_answer (Typed words end) = ok (words, end)
-derivation_answer (Refused m p) = refused m p
+use Rattle.std.specs.Prelude.{Result as Answer}
+use Rattle.logic.specs.Answer.{answer as told}
+use Rattle.logic.specs.declared.refusal.Refusal.{Refusal}
+use Rattle.rules.specs.declared.typed.Typed.{Typed}
 
 -- the words of the type that came out, of a term that ends at `end`
-abbrev pub type_and_end : Result Term → ℕ → Result (ℕ × ℕ)
-type_and_end o end = o >>= λ A. ok (size A, end)
+abbrev pub type_and_end : Result Term → ℕ → Result Typed
+type_and_end o end = o >>= λ A. ok (record { words = size A; end = end })
 
 -- the type that came out stands at the front of the workspace
 abbrev pub Front : Result Term → List ℕ → Type 0
@@ -26,8 +23,8 @@ abbrev pub front_words : ℕ
 front_words = most_type_words + most_type_words
 
 -- a type is at the front, and only the front was written
-pub record TypeFormed (o : Result Term) (end : ℕ) (old new : List ℕ) (r : Derivation) : Type 0 where
-  pub answer : derivation_answer r ≡ type_and_end o end
+pub record TypeFormed (o : Result Term) (end : ℕ) (old new : List ℕ) (r : Answer Typed Refusal) : Type 0 where
+  pub answer : told r ≡ type_and_end o end
   pub front : Front o new
   pub rest : drop front_words new ≡ drop front_words old
 

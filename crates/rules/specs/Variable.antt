@@ -1,5 +1,5 @@
 -- The search for a variable's binder, and its type.
-use Rattle.std.specs.Prelude.{ℕ, suc, ◌+◌, ◌≤◌, ◌<◌, ◌≡◌, Bool, List, length, drop}
+use Rattle.std.specs.Prelude.{ℕ, suc, ◌+◌, ◌≤◌, ◌<◌, ◌≡◌, Bool, List, length, drop, Option, Some, None}
 use Rattle.std.proofs.Math.Option.{some}
 use Rattle.std.proofs.Math.ListN.{get_elem?}
 use Rattle.logic.specs.Limits.{payloads, most_words, most_nesting, most_type_words}
@@ -24,6 +24,11 @@ pub record BinderFound (proof ws : List ℕ) (floor used n : ℕ) (Γ : List Ter
   pub least : floor ≤ r
   pub most : r ≤ used
   pub binders : Binders proof (scope_words floor r ws) (drop n Γ)
+
+-- the words kept from the entry of variable n on; or there is no such binder
+abbrev pub EntryFound : (proof ws : List ℕ) (floor used n : ℕ) → List Term → Option ℕ → Type 0
+EntryFound proof ws floor used n Γ None = BinderFound proof ws floor used n Γ floor
+EntryFound proof ws floor used n Γ (Some r) = (floor < r) × BinderFound proof ws floor used n Γ r
 
 -- a variable's number and place, and the binders in scope
 pub record InScope (proof ws : List ℕ) (floor used n at : ℕ) : Type 0 where

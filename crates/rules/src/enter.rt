@@ -11,30 +11,23 @@ ghost use Rattle.rules.specs.Enter.{Enters, NodeEnterable, Entering, Kept, Keepa
 
 use crate::front::front_is;
 use crate::scope::ENTRY_HEAD;
-use logic::refusal::{CONDITION_FAILS, NOT_A_FUNCTION};
-use logic::word::{BINDER, KIND_P, PI, PRIN, PROP, SAYS, TAG_APP, TAG_BIND, TYPE, kind, tag_of};
+use logic::refusal::{Reason, Refusal};
+use logic::word::{APP, BIND, KIND_P, LAM, PI, PRIN, PROP, SAYS, TYPE};
 use moves::shift::shift_within;
 use parts::copy_within;
 
-// How many words at the front and at the end of the workspace are kept while the second child is derived;
-// or the number with which the test fails.
-#[derive(Drop)]
-pub enum Entered {
-    Fits { keep: usize, used: usize },
-    Refused { number: u32 },
+// How many words at the front and at the end of the workspace are kept while the second child is derived.
+#[derive(Clone, Copy)]
+pub struct Entered {
+    pub keep: usize,
+    pub used: usize,
 }
 
 // Whether a type that begins with this word is one that a domain may have: T, P or KindP, which have no other word.
 fn domain(word: u32) -> bool
     ensures { (A : Term) → PlainType A → word ≡ first_word A → result ≡ is-domain A }
 {
-    if word == TYPE {
-        return true;
-    }
-    if word == PROP {
-        return true;
-    }
-    word == KIND_P
+    matches!(word, TYPE | PROP | KIND_P)
 }
 
 // Writes the first words of an entry.
@@ -84,53 +77,39 @@ pub fn enter(
     at: usize,
     next: usize,
     n: usize,
-) -> Entered
+) -> Result<Entered, Refusal>
     requires { NodeEnterable proof.now ws.old used at next n }
     ensures { (o : Op) → (a A : Term) → Enters proof.now ws.old at next n o a A
         → Entering o at a A n used ws.old ws.new result }
 {
-    let word = proof[at];
-    let tag = tag_of(word);
-    if tag == TAG_APP {
-        // an App's function has a Pi type, which is kept at the front
-        if ws[0] == PI {
-            return Entered::Fits { keep: n, used };
+    match proof[at] {
+        APP => {
+            // an App's function has a Pi type, which is kept at the front
+            if ws[0] != PI {
+                return Err(Reason::NotAFunction.at(at));
+            }
+            Ok(Entered { keep: n, used })
         }
-        return Entered::Refused {
-            number: NOT_A_FUNCTION,
-        };
-    }
-    if tag == TAG_BIND {
-        if ws[0] == SAYS {
-            let kept = keep_says(ws, used, n);
-            return Entered::Fits {
-                keep: 0,
-                used: kept,
-            };
+        BIND => {
+            if ws[0] != SAYS {
+                return Err(Reason::ConditionFails.at(at));
+            }
+            let used = keep_says(ws, used, n);
+            Ok(Entered { keep: 0, used })
         }
-        return Entered::Refused {
-            number: CONDITION_FAILS,
-        };
-    }
-    if kind(word) == BINDER {
-        let fine = domain(ws[0]);
-        if fine {
-            let kept = keep_domain(ws, used, at + 1, next);
-            return Entered::Fits {
-                keep: 0,
-                used: kept,
-            };
+        PI | LAM => {
+            if !domain(ws[0]) {
+                return Err(Reason::ConditionFails.at(at));
+            }
+            let used = keep_domain(ws, used, at + 1, next);
+            Ok(Entered { keep: 0, used })
         }
-        return Entered::Refused {
-            number: CONDITION_FAILS,
-        };
-    }
-    // a Says or a Ret
-    let fine = front_is(&ws[..], PRIN);
-    if fine {
-        return Entered::Fits { keep: 0, used };
-    }
-    Entered::Refused {
-        number: CONDITION_FAILS,
+        // a Says or a Ret
+        _ => {
+            if !front_is(ws, PRIN) {
+                return Err(Reason::ConditionFails.at(at));
+            }
+            Ok(Entered { keep: 0, used })
+        }
     }
 }

@@ -1,6 +1,8 @@
 // The words of document 01's sample, each under the name that the document gives it, and of document 02's examples.
 #![tactic(auto)]
 
+ghost use Rattle.std.specs.Prelude.{◌≤◌, length};
+
 use logic::word::{
     APP, BIND, CONSTANT_0, LAM, NAME_0, PI, PRIN, PROP, SAYS, SIGN_0, STRING, TEXT_0, VARIABLE_0,
 };
@@ -62,29 +64,30 @@ const RULE_FROM: u32 = 10;
 const RULE_UNTIL: u32 = 20;
 
 // Lays block into out again and again, and last at its end.
-fn lay(block: &[u32], last: &[u32], out: &mut [u32]) {
-    let n = out.len();
-    let mut i = 0;
-    while i < n {
-        let left = n - i;
-        out[i] = if left <= last.len() {
-            last[last.len() - left]
-        } else if 0 < block.len() {
-            block[i % block.len()]
-        } else {
-            0
-        };
-        i += 1;
+fn lay(block: &[u32], last: &[u32], out: &mut [u32])
+    requires { length last.now ≤ length out.old }
+{
+    let (front, end) = out.split_at_mut(out.len() - last.len());
+    for (word, &laid) in front.iter_mut().zip(block.iter().cycle()) {
+        *word = laid;
     }
+    end.copy_from_slice(last);
+}
+
+// So many words, laid so.
+fn laid<const N: usize>(block: &[u32], last: &[u32]) -> [u32; N]
+    requires { length last.now ≤ N }
+{
+    let mut words = [0; N];
+    lay(block, last, &mut words);
+    words
 }
 
 // C0 = Pi S P, C1 = Pi S Pi S P, C2 = Pi S P, C3 = Pi App C2 s7 P, with a length word before each.
 pub fn signature() -> [u32; 20] {
     let first = [3, PI, S, P, 5, PI, S, PI, S, P];
     let second = [3, PI, S, P, 5, PI, APP, C2, S7, P];
-    let mut words = [0u32; 20];
-    lay(&first, &second, &mut words);
-    words
+    laid(&first, &second)
 }
 
 // The proposition of r = Sign0 Pi S Pi N Pi Says V0 App C2 V1 App C0 V2.
@@ -94,41 +97,27 @@ fn rule() -> [u32; 13] {
 
 // The rule list of r alone: principal, first day, last day, length, proposition.
 pub fn rules() -> [u32; 17] {
-    let head = [0, RULE_FROM, RULE_UNTIL, 13];
-    let proposition = rule();
-    let mut words = [0u32; 17];
-    lay(&head, &proposition, &mut words);
-    words
+    laid(&[0, RULE_FROM, RULE_UNTIL, 13], &rule())
 }
 
 // Bind r, and what is behind it.
 fn bind_rule() -> [u32; 15] {
-    let head = [BIND, SIGN_0];
-    let proposition = rule();
-    let mut words = [0u32; 15];
-    lay(&head, &proposition, &mut words);
-    words
+    laid(&[BIND, SIGN_0], &rule())
 }
 
 // p = Bind r Ret a0 App App App V0 s7 a3 Sign3 App C2 s7.
 pub fn proof() -> [u32; 27] {
-    let first = bind_rule();
     let body = [RET, A0, APP, APP, APP, V0, S7, A3, SIGN3, APP, C2, S7];
-    let mut words = [0u32; 27];
-    lay(&first, &body, &mut words);
-    words
+    laid(&bind_rule(), &body)
 }
 
 // p with two parts that it does not need: Bind r once more before it, whose variable is unused, and what a3 says handed
 // to a Lam. Bind r Bind r App Lam Says a3 App C2 s7 Ret a0 App App App V1 s7 a3 V0 Sign3 App C2 s7.
 pub fn longer_proof() -> [u32; 50] {
-    let first = bind_rule();
     let body = [
         APP, LAM, SAYS, A3, APP, C2, S7, RET, A0, APP, APP, APP, V1, S7, A3, V0, SIGN3, APP, C2, S7,
     ];
-    let mut words = [0u32; 50];
-    lay(&first, &body, &mut words);
-    words
+    laid(&bind_rule(), &body)
 }
 
 // What the receipt of request 0, 7, 9 states, as a Sign: Sign0 App App C1 s7 s9.
@@ -138,47 +127,29 @@ pub fn receipt() -> [u32; 6] {
 
 // A proof of what p proves that uses that receipt too: Bind Sign0 App App C1 s7 s9 and then p.
 fn proof_by_receipt() -> [u32; 34] {
-    let signed = receipt();
-    let p = proof();
     let mut words = [BIND; 34];
-    lay(&signed, &p, &mut words[1..]);
+    lay(&receipt(), &proof(), &mut words[1..]);
     words
 }
 
 // Request 0, 7, 9 with p as an item of a batch: operation, extract, delivery, length, proof.
 fn item() -> [u32; 31] {
-    let head = [0, 7, 9, 27];
-    let p = proof();
-    let mut words = [0u32; 31];
-    lay(&head, &p, &mut words);
-    words
+    laid(&[0, 7, 9, 27], &proof())
 }
 
 // Request 0, 7, 10 with the proof that uses the receipt of the request before, as an item.
 fn item_by_receipt() -> [u32; 38] {
-    let head = [0, 7, 10, 34];
-    let derived = proof_by_receipt();
-    let mut words = [0u32; 38];
-    lay(&head, &derived, &mut words);
-    words
+    laid(&[0, 7, 10, 34], &proof_by_receipt())
 }
 
 // The two items.
 pub fn items_in_turn() -> [u32; 69] {
-    let first = item();
-    let second = item_by_receipt();
-    let mut words = [0u32; 69];
-    lay(&first, &second, &mut words);
-    words
+    laid(&item(), &item_by_receipt())
 }
 
 // They in the other order.
 pub fn items_in_other_order() -> [u32; 69] {
-    let first = item_by_receipt();
-    let second = item();
-    let mut words = [0u32; 69];
-    lay(&first, &second, &mut words);
-    words
+    laid(&item_by_receipt(), &item())
 }
 
 // A = App C2 s7, which a3 says.
@@ -190,9 +161,7 @@ pub fn statement() -> [u32; 3] {
 pub fn escaping(principal: u32) -> [u32; 18] {
     let first = [LAM, PI, APP, C2, S7, SAYS, principal, APP, C3, V0];
     let last = [BIND, SIGN3, APP, C2, S7, APP, V1, V0];
-    let mut words = [0u32; 18];
-    lay(&first, &last, &mut words);
-    words
+    laid(&first, &last)
 }
 
 // "For every property Q of homes, what this surveyor says of Q holds", of a5:
@@ -203,11 +172,10 @@ pub fn trust() -> [u32; 15] {
 
 // Bind Sign4 of that trust, Ret a4 App App App V0 C2 s7 Sign5 App C2 s7.
 pub fn trusting() -> [u32; 29] {
-    let proposition = trust();
     let body = [RET, A4, APP, APP, APP, V0, C2, S7, SIGN5, APP, C2, S7];
     let mut words = [BIND; 29];
     words[1] = SIGN4;
-    lay(&proposition, &body, &mut words[2..]);
+    lay(&trust(), &body, &mut words[2..]);
     words
 }
 
@@ -221,28 +189,16 @@ fn long_domain() -> [u32; 12] {
 pub fn statement_254() -> [u32; 254] {
     let domain = [PI, PI, SAYS, A3, APP, C2, S7, APP, C2, S7];
     let body = [APP, C3, APP, V0, SIGN3, APP, C2, S7];
-    let mut last = [0u32; 38];
-    lay(&domain, &body, &mut last);
-    let first = long_domain();
-    let mut words = [0u32; 254];
-    lay(&first, &last, &mut words);
-    words
+    let last: [u32; 38] = laid(&domain, &body);
+    laid(&long_domain(), &last)
 }
 
 // Pi D 21 times and A.
 pub fn statement_255() -> [u32; 255] {
-    let first = long_domain();
-    let last = statement();
-    let mut words = [0u32; 255];
-    lay(&first, &last, &mut words);
-    words
+    laid(&long_domain(), &statement())
 }
 
 // Pi S 32 times and P.
 pub fn deep() -> [u32; 65] {
-    let first = [PI, S];
-    let last = [P];
-    let mut words = [0u32; 65];
-    lay(&first, &last, &mut words);
-    words
+    laid(&[PI, S], &[P])
 }

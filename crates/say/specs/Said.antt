@@ -1,23 +1,27 @@
 -- What a say answers and leaves, by the definitions of `register`.
 use Rattle.std.specs.Prelude.{ℕ, ◌≤◌, ◌≡◌, Bool, true, false, List, length}
 use Rattle.logic.specs.Limits.{most_words}
-use Rattle.logic.specs.Result.{Result, ok, refused}
+use Rattle.std.specs.Prelude.{Result as Answer}
+use Rattle.logic.specs.Answer.{answer as told}
+use Rattle.logic.specs.Result.{Result, ok, ◌>>=◌}
+use Rattle.logic.specs.declared.refusal.Refusal.{Refusal}
 use Rattle.logic.specs.Term.{Term}
 use Rattle.words.specs.Place.{Is}
 use Rattle.register.specs.Records.{Content, Statement, register_content}
 use Rattle.register.specs.Calls.{Lent, say_call, after_say}
 use Rattle.say.specs.declared.Said.{Said}
-use Rattle.say.specs.declared.Said.TheVariants.{Added, Held, Refused}
+use Rattle.say.specs.declared.Said.TheVariants.{Added, Held}
 
--- number, place and value of each case: whether it added a record. "Success answers 0 at place 0, and say also whether
--- it added a record"
-abbrev pub said_answer : Said → Result Bool
-said_answer Added = ok true
-said_answer Held = ok false
-said_answer (Refused m p) = refused m p
+-- whether it added a record: "Success answers 0 at place 0, and say also whether it added a record"
+abbrev pub adds : Said → Bool
+adds Added = true
+adds Held = false
+
+abbrev pub said_answer : Answer Said Refusal → Result Bool
+said_answer r = told r >>= λ s. ok (adds s)
 
 -- the answer, and the register afterwards
-pub record SaysAs (l : Lent) (old : List ℕ) (day : ℕ) (st : Statement) (new : List ℕ) (r : Said) : Type 0 where
+pub record SaysAs (l : Lent) (old : List ℕ) (day : ℕ) (st : Statement) (new : List ℕ) (r : Answer Said Refusal) : Type 0 where
   pub answer : said_answer r ≡ say_call l old day st
   pub register : new ≡ after_say (say_call l old day st) old day st
 

@@ -20,16 +20,15 @@ use Rattle.words.specs.Place.{Is}
 use Rattle.words.specs.Typed.{TypeAt}
 use Rattle.words.proofs.Places.{end_of}
 use Rattle.rules.specs.Form.{Front}
-use Rattle.rules.proofs.Fronts.{typed_by, refused_by}
-use Rattle.rules.specs.declared.derivation.Derivation.{Derivation}
-use Rattle.rules.specs.declared.derivation.Derivation.TheVariants.{Typed, Refused}
+use Rattle.rules.specs.declared.typed.Typed.{Typed}
 use Rattle.typing.specs.Check.{ConstantsOf, typed_term, Judged}
 use Rattle.register.specs.Records.{Content, register_content}
 use Rattle.register.specs.Calls.{Lent, Outline, View, view, length_test, shared, outline_of, on_register}
-use Rattle.shared_tests.specs.Shared.{ready_answer, prepared, constants_found, LentSo, PreparedAs}
+use Rattle.shared_tests.specs.Shared.{prepared, constants_found, LentSo, PreparedAs}
 use Rattle.shared_tests.proofs.SharedTests.{bind_bind}
-use Rattle.shared_tests.specs.declared.Ready.{Ready}
-use Rattle.shared_tests.specs.declared.Ready.TheVariants.{Constants, Refused as ReadyRefused}
+use Rattle.logic.specs.Answer.{answer}
+use Rattle.logic.specs.declared.refusal.Refusal.{Refusal}
+use Rattle.std.specs.Prelude.{Result as Answer}
 
 -- ---- a call's own tests come behind the shared ones
 
@@ -48,12 +47,12 @@ own_tests l o content own =
     then_bind (require (operations_test Σ l.n) bad_number 0) (ok (view l o c Σ)) own)))))
 
 -- what an answer that refuses tells
-pub not_ready : (o : Result View) (r : Ready) → ready_answer r ≡ constants_found o → (m p : ℕ) → r ≡ ReadyRefused m p → o ≡ refused m p
-not_ready o r e m p q = not_mapped (λ v. length v.Σ) o (sym e ∙ ap ready_answer q)
+pub not_ready : (o : Result View) (r : Answer ℕ Refusal) → answer r ≡ constants_found o → (m p : ℕ) → answer r ≡ refused m p → o ≡ refused m p
+not_ready o r e m p q = not_mapped (λ v. length v.Σ) o (sym e ∙ q)
 
-module _ {Y : Type 0} (l : Lent) (reg table : List ℕ) (r : Ready) (own : View → Result Y) (P : PreparedAs l reg table r) where
+module _ {Y : Type 0} (l : Lent) (reg table : List ℕ) (r : Answer ℕ Refusal) (own : View → Result Y) (P : PreparedAs l reg table r) where
   -- the shared tests refused
-  pub not_prepared : (m p : ℕ) → r ≡ ReadyRefused m p → on_register l reg own ≡ refused m p
+  pub not_prepared : (m p : ℕ) → answer r ≡ refused m p → on_register l reg own ≡ refused m p
   not_prepared m p q = own_tests l (outline_of reg) (register_content reg) own ∙ stop own (not_ready (prepared l reg) r P.answer m p q)
 
   -- or found a register that is not broken and a signature that is accepted
@@ -66,8 +65,8 @@ module _ {Y : Type 0} (l : Lent) (reg table : List ℕ) (r : Ready) (own : View 
     pub lent_so : LentSo l (outline_of reg) content table (view l (outline_of reg) content Σ)
     pub is : on_register l reg own ≡ own (view l (outline_of reg) content Σ)
 
-  pub passed_so : (count : ℕ) → r ≡ Constants count → PassedSo count
-  passed_so count q = bound (prepared l reg) _ (sym P.answer ∙ ap ready_answer q) λ v e n.
+  pub passed_so : (count : ℕ) → answer r ≡ ok count → PassedSo count
+  passed_so count q = bound (prepared l reg) _ (sym P.answer ∙ q) λ v e n.
       let R = P.passed v e in
       let S = R.lent_so in
       let c : count ≡ length v.Σ = sym (ok_inj n) in
@@ -123,18 +122,18 @@ pub record TypeFound (o : Result Term) (new : List ℕ) (words : ℕ) : Type 0 w
   pub words_are : words ≡ size type
   pub front : TypeAt new 0 type
 
-pub type_found : (o : Result Term) (end : ℕ) (new : List ℕ) (r : Derivation) (words e : ℕ) → Judged o end new r → r ≡ Typed words e → TypeFound o new words
-type_found o end new r words e J q = typed_by o end J.answer words e q λ A i w l.
-    record { type = A; is = i; words_are = w; front = subst (λ (x : Result Term). Front x new) i J.front }
+pub type_found : (o : Result Term) (end : ℕ) (new : List ℕ) (r : Answer Typed Refusal) (t : Typed) → Judged o end new r → answer r ≡ ok t → TypeFound o new t.words
+type_found o end new r t J q = bound o _ (sym J.answer ∙ q) λ A i w.
+    record { type = A; is = i; words_are = ap (λ (x : Typed). x.words) (sym (ok_inj w)); front = subst (λ (x : Result Term). Front x new) i J.front }
 
-pub type_refused : (o : Result Term) (end : ℕ) (new : List ℕ) (r : Derivation) (m p : ℕ) → Judged o end new r → r ≡ Refused m p → o ≡ refused m p
-type_refused o end new r m p J q = refused_by o end J.answer m p q
+pub type_refused : {m p : ℕ} (o : Result Term) (end : ℕ) (new : List ℕ) (r : Answer Typed Refusal) → Judged o end new r → answer r ≡ refused m p → o ≡ refused m p
+type_refused o end new r J q = not_mapped _ o (sym J.answer ∙ q)
 
 -- the table's part that is lent
 pub table_within : (l : Lent) (table : List ℕ) (count : ℕ) (Σ : List Term) → count ≡ length Σ → ConstantsOf l.sig (take count table) Σ →
     count ≤ length table
 table_within l table count Σ e C = omega (arith, length-take count table, C.declared.count)
 
-module _ (o : Result Term) (end : ℕ) (new : List ℕ) (r : Derivation) (J : Judged o end new r) where
-  pub words_within : (words e : ℕ) → r ≡ Typed words e → words ≤ length new
-  words_within words e q = let T = type_found o end new r words e J q in omega (arith, T.words_are, end_of new 0 T.type T.front.rest T.front.words)
+module _ (o : Result Term) (end : ℕ) (new : List ℕ) (r : Answer Typed Refusal) (J : Judged o end new r) where
+  pub words_within : (t : Typed) → answer r ≡ ok t → t.words ≤ length new
+  words_within t q = let T = type_found o end new r t J q in omega (arith, T.words_are, end_of new 0 T.type T.front.rest T.front.words)

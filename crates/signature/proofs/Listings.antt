@@ -34,9 +34,12 @@ use Rattle.rules.specs.Form.{Front}
 use Rattle.rules.proofs.Fronts.{typed_by, refused_by}
 use Rattle.typing.specs.Check.{ConstantsOf, typed_term, Judged}
 use Rattle.signature.specs.Listing.{succeeded, constant_at, SignatureRead}
-use Rattle.rules.specs.declared.derivation.Derivation.{Derivation}
-use Rattle.rules.specs.declared.derivation.Derivation.TheVariants.{Typed, Refused}
-use Rattle.signature.specs.declared.list.Listed.TheVariants.{Accepted, Refused as ListedRefused}
+use Rattle.std.specs.Prelude.{Ok, Err}
+use Rattle.std.specs.Prelude.{Result as Answer}
+use Rattle.std.specs.Result.{is_ok}
+use Rattle.logic.specs.Answer.{answer as told}
+use Rattle.logic.specs.declared.refusal.Refusal.{Refusal}
+use Rattle.rules.specs.declared.typed.Typed.{Typed}
 use Rattle.logic.proofs.SignatureList.{constant_right}
 
 -- ---- one constant
@@ -108,16 +111,22 @@ module _ (Σ : List Term) (sig : List ℕ) (at : ℕ) (l : at < length sig) wher
         go (ok t) e = typed t (infer Σ [] 0 t) e
         go (refused m' p') e = absurd (clash (cc))
 
-    pub constant_not_typed : (new : List ℕ) (r : Derivation) (end m p : ℕ) → Judged (typed_term Σ most_words most_nesting (take n ws)) end new r
-        → r ≡ Refused m p
-        → false ≡ constant_at Σ (drop at sig)
-    constant_not_typed new r end m p J q = sym (tests ∙ typed_refused m p (refused_by _ end J.answer m p q))
+    -- the check of its words, lent
+    module _ {words : List ℕ} (same-words : words ≡ take n ws) where
+      of_words : {o : Result Term} → typed_term Σ most_words most_nesting words ≡ o → typed_term Σ most_words most_nesting (take n ws) ≡ o
+      of_words e = ap (typed_term Σ most_words most_nesting) (sym same-words) ∙ e
 
-    pub typed_kind : (new : List ℕ) (r : Derivation) (end words e : ℕ) (b : Bool) → Judged (typed_term Σ most_words most_nesting (take n ws)) end new r
-        → r ≡ Typed words e
-        → ((A : Term) → TypeAt new 0 A → b ≡ same A KindP) → b ≡ constant_at Σ (drop at sig)
-    typed_kind new r end words e b J q f =
-        typed_by _ end J.answer words e q λ A i w l. sym (tests ∙ typed_ok A i ∙ sym (f A (subst (λ (x : Result Term). Front x new) i J.front)))
+      pub constant_not_typed : {new : List ℕ} (r : Answer Typed Refusal) {end : ℕ} → Judged (typed_term Σ most_words most_nesting words) end new r
+          → is_ok r ≡ false → false ≡ constant_at Σ (drop at sig)
+      constant_not_typed (Ok t) J q = absurd (clash (cc))
+      constant_not_typed (Err e) {end} J q = sym (tests ∙ typed_refused _ _ (of_words (refused_by (Err e) _ end J.answer _ _ refl)))
+
+      pub typed_kind : {new : List ℕ} (r : Answer Typed Refusal) {end : ℕ} {b : Bool} → Judged (typed_term Σ most_words most_nesting words) end new r
+          → is_ok r ≡ true → ((A : Term) → TypeAt new 0 A → b ≡ same A KindP) → b ≡ constant_at Σ (drop at sig)
+      typed_kind {new} (Ok t) {end} J q f =
+          typed_by (Ok t) _ end J.answer t refl λ A i w l.
+          sym (tests ∙ typed_ok A (of_words i) ∙ sym (f A (subst (λ (x : Result Term). Front x new) i J.front)))
+      typed_kind (Err e) J q f = absurd (clash (cc))
 
 -- ---- the types of a permit and of a receipt
 
@@ -232,28 +241,30 @@ read_up_to_start sig table = record {
 }
 
 -- the list is refused at a place
-refused_at : (sig table : List ℕ) (at k : ℕ) (Σ : List Term) (ws : List ℕ) → signature sig ≡ constants k at Σ ws → 0 < k
-    → ((k : ℕ) → constants (suc k) at Σ ws ≡ refused bad_signature at) → SignatureRead (signature sig) sig table (ListedRefused at)
-refused_at sig table at zero Σ ws e l f = absurd (omega arith)
-refused_at sig table at (suc k) Σ ws e l f = let q = e ∙ f k in record { answer = sym (stop _ q); constants = λ Σ i. absurd (not_ok (sym q ∙ i)) }
+refused_at : {r : Answer ℕ Refusal} (sig table : List ℕ) (at k : ℕ) (Σ : List Term) (ws : List ℕ) → signature sig ≡ constants k at Σ ws → 0 < k
+    → ((k : ℕ) → constants (suc k) at Σ ws ≡ refused bad_signature at) → told r ≡ refused bad_signature at → SignatureRead (signature sig) sig table r
+refused_at sig table at zero Σ ws e l f t = absurd (omega arith)
+refused_at sig table at (suc k) Σ ws e l f t = let q = e ∙ f k in record { answer = t ∙ sym (stop _ q); constants = λ Σ i. absurd (not_ok (sym q ∙ i)) }
 
-module _ (sig table : List ℕ) (at count : ℕ) (R : ReadUpTo sig table at count) where
+module _ {sig table : List ℕ} {at count : ℕ} (R : ReadUpTo sig table at count) where
   more_words : at < length sig → 0 < length (drop at sig)
   more_words l = omega (arith, length-drop at sig)
 
-  pub reading_full : (new : List ℕ) → at < length sig → most_constants ≤ count → SignatureRead (signature sig) sig new (ListedRefused at)
+  pub reading_full : {r : Answer ℕ Refusal} (new : List ℕ) → at < length sig → most_constants ≤ count → told r ≡ refused bad_signature at
+      → SignatureRead (signature sig) sig new r
   reading_full new l h =
       refused_at sig new at R.k R.Σ (drop at sig) R.is (omega (arith, R.enough))
       (λ k. full_list k at R.Σ (drop at sig) (more_words l) (omega (arith, R.counted)))
 
-  pub reading_bad : (new : List ℕ) → at < length sig → constant_at R.Σ (drop at sig) ≡ false → SignatureRead (signature sig) sig new (ListedRefused at)
+  pub reading_bad : {r : Answer ℕ Refusal} (new : List ℕ) → at < length sig → constant_at R.Σ (drop at sig) ≡ false → told r ≡ refused bad_signature at
+      → SignatureRead (signature sig) sig new r
   reading_bad new l h =
       refused_at sig new at R.k R.Σ (drop at sig) R.is (omega (arith, R.enough)) (λ k. bad_constant k at R.Σ (drop at sig) (more_words l) h)
 
-  pub reading_done : length sig ≤ at → SignatureRead (signature sig) sig table (Accepted count)
+  pub reading_done : length sig ≤ at → SignatureRead (signature sig) sig table (Ok count)
   reading_done l = go R.k R.is (omega (arith, R.enough))
     where
-      go : (k : ℕ) → signature sig ≡ constants k at R.Σ (drop at sig) → 0 < k → SignatureRead (signature sig) sig table (Accepted count)
+      go : (k : ℕ) → signature sig ≡ constants k at R.Σ (drop at sig) → 0 < k → SignatureRead (signature sig) sig table (Ok count)
       go zero e h = absurd (omega arith)
       go (suc k) e h =
           let q : signature sig ≡ ok R.Σ = e ∙ ap (constants (suc k) at R.Σ) (drop_of_length-le sig l) ∙ ended k at R.Σ in
@@ -282,7 +293,7 @@ module _ (sig table : List ℕ) (x : ℕ) (Σ : List Term) (A : Term) (D : Decla
     length_word = entry_of (λ B i. (1 ≤ i) × (get_or sig (i - 1) 0 ≡ size B)) D.length_word (one_before, length-there);
   }
 
-module _ (sig table : List ℕ) (at count : ℕ) (R : ReadUpTo sig table at count) (l : at < length sig) (few : count < most_constants)
+module _ {sig table : List ℕ} {at count : ℕ} (R : ReadUpTo sig table at count) (l : at < length sig) (few : count < most_constants)
     (entries : length table ≡ most_constants) (fine : constant_at R.Σ (drop at sig) ≡ true) where
   abbrev words_there : ℕ
   words_there = get_or sig at 0
@@ -341,13 +352,11 @@ module _ (sig table : List ℕ) (at count : ℕ) (R : ReadUpTo sig table at coun
           low = omega (arith, R.low, O.small, length_word_is);
         }
 
-  pub reading_more : ReadUpTo sig (set table count (at + 1)) (at + 1 + words_there) (count + 1)
-  reading_more = go R.k refl
+  pub reading_more : ReadUpTo sig (set table count (at + 1)) (at + (1 + words_there)) (count + 1)
+  reading_more =
+      let w : at + 1 + words_there ≡ at + (1 + words_there) = omega arith in
+      subst (λ (i : ℕ). ReadUpTo sig (set table count (at + 1)) i (count + 1)) w (go R.k refl)
     where
       go : (k : ℕ) → R.k ≡ k → ReadUpTo sig (set table count (at + 1)) (at + 1 + words_there) (count + 1)
       go zero K = absurd (omega (arith, R.enough))
       go (suc k) K = reading_on k (one_here k) K
-
-  -- the words of the constant are within the list
-  pub more_inside : at + 1 + words_there ≤ length sig
-  more_inside = inside_there 0 (one_here 0)

@@ -1,23 +1,18 @@
 -- What the code of the signature list and of its permits and receipts is asked and what it ensures.
 use Rattle.std.specs.Prelude.{ℕ, ◌≤◌, ◌<◌, Bool, true, false, ◌&&◌, ◌≡◌, List, [], ◌∷◌, leb, length, take}
 use Rattle.logic.specs.Limits.{least_workspace, most_constants, most_constant_words}
-use Rattle.logic.specs.Refusals.{bad_signature}
 use Rattle.logic.specs.Result.{Result, ok, refused, ◌>>=◌}
 use Rattle.logic.specs.Term.{Term}
 use Rattle.logic.specs.SignatureList.{constant}
 use Rattle.rules.specs.Scope.{Declared}
 use Rattle.typing.specs.Check.{ConstantsOf}
-use Rattle.signature.specs.declared.list.Listed.{Listed}
-use Rattle.signature.specs.declared.list.Listed.TheVariants.{Accepted, Refused}
-
--- number, place and value of each case: how many constants, or the place of the first bad one's length word
-abbrev pub listed_answer : Listed → Result ℕ
-listed_answer (Accepted n) = ok n
-listed_answer (Refused p) = refused bad_signature p
+use Rattle.std.specs.Prelude.{Result as Answer}
+use Rattle.logic.specs.Answer.{answer as told}
+use Rattle.logic.specs.declared.refusal.Refusal.{Refusal}
 
 -- a signature list was read: the first words of the table say where the constants' types stand
-pub record SignatureRead (o : Result (List Term)) (sig table : List ℕ) (r : Listed) : Type 0 where
-  pub answer : listed_answer r ≡ (o >>= λ Σ. ok (length Σ))
+pub record SignatureRead (o : Result (List Term)) (sig table : List ℕ) (r : Answer ℕ Refusal) : Type 0 where
+  pub answer : told r ≡ (o >>= λ Σ. ok (length Σ))
   pub constants : (Σ : List Term) → o ≡ ok Σ → ConstantsOf sig (take (length Σ) table) Σ
 
 -- a table for as many constants as there may be, and a workspace that is not short

@@ -10,13 +10,22 @@ ghost use Rattle.signature.specs.Listing.{Declares};
 use logic::limit::MOST_OPERATIONS;
 use logic::word::{PI, PROP, STRING};
 use parts::same;
+use rules::constants::Constants;
+
+// The words of a permit's type, Pi S P.
+pub const PERMIT: [u32; 3] = [PI, STRING, PROP];
+
+// And of a receipt's, Pi S Pi S P.
+pub const RECEIPT: [u32; 5] = [PI, STRING, PI, STRING, PROP];
 
 // Whether constant i is there and its type has exactly the words given.
-fn constant_is(sig: &[u32], table: &[u32], i: usize, words: &[u32]) -> bool
-    requires { Declares sig.now table.now }
-    ensures { (Σ : List Term) → (A : Term) → Declared sig.now table.now Σ → words.now ≡ encode A → InRange A
+fn constant_is(constants: Constants, i: usize, words: &[u32]) -> bool
+    requires { Declares constants.sig.now constants.table.now }
+    ensures { (Σ : List Term) → (A : Term) → Declared constants.entry.sig.now constants.entry.table.now Σ
+        → words.now ≡ encode A → InRange A
         → result ≡ is_type A (get_elem? Σ i) }
 {
+    let Constants { sig, table } = constants;
     if table.len() <= i {
         return false;
     }
@@ -27,30 +36,18 @@ fn constant_is(sig: &[u32], table: &[u32], i: usize, words: &[u32]) -> bool
 
 // Whether operations 0 to n - 1, at least one and at most 8, have their
 // permits, Pi S P, and their receipts, Pi S Pi S P.
-pub fn operations(sig: &[u32], table: &[u32], n: u32) -> bool
-    requires { Declares sig.now table.now }
-    ensures { (Σ : List Term) → Declared sig.now table.now Σ → result ≡ operations_test Σ n }
+pub fn operations(constants: Constants, n: u32) -> bool
+    requires { Declares constants.sig.now constants.table.now }
+    ensures { (Σ : List Term) → Declared constants.entry.sig.now constants.entry.table.now Σ → result ≡ operations_test Σ n }
 {
     let count = n as usize;
-    if count < 1 {
+    if count < 1 || MOST_OPERATIONS < count {
         return false;
     }
-    if MOST_OPERATIONS < count {
-        return false;
-    }
-    let permit = [PI, STRING, PROP];
-    let receipt = [PI, STRING, PI, STRING, PROP];
-    let mut i: usize = 0;
-    while i < count {
-        let permitted = constant_is(sig, table, 2 * i, &permit);
-        if !permitted {
+    for i in 0..count {
+        if !constant_is(constants, 2 * i, &PERMIT) || !constant_is(constants, 2 * i + 1, &RECEIPT) {
             return false;
         }
-        let received = constant_is(sig, table, 2 * i + 1, &receipt);
-        if !received {
-            return false;
-        }
-        i += 1;
     }
     true
 }

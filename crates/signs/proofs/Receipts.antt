@@ -9,7 +9,7 @@ use lib.Seq.{drop-drop, drop_at, get_or-drop}
 use borrow.Author.Tests.{eq-eqb}
 use Rattle.logic.specs.Limits.{payloads, most_operations}
 use Rattle.logic.specs.Term.{Term}
-use Rattle.register.specs.Records.{Ask, ask_of, receipt_words, receipt_dated, same_words, some_of, says, Holds, covered}
+use Rattle.register.specs.Records.{Ask, ask_of, receipt_words, receipt_dated, same_words, some_of, says}
 use Rattle.register.specs.Records.{item_head, operation_word, extract_word, delivery_word, item_length_word}
 use Rattle.register.specs.Calls.{Holding, signs_held}
 use Rattle.register.specs.BatchTests.{receipted, with_receipts, asks_words, AllInRange, AskedBefore}
@@ -37,12 +37,9 @@ pub record LeftAsked (ws : List ℕ) (at a : ℕ) (q : List ℕ) (ks : List Ask)
 abbrev pub Asking : List ℕ → (at a : ℕ) → List ℕ → Type 0
 Asking ws at a q = (ks : List Ask) → AskedBefore ws ks → LeftAsked ws at a q ks
 
-pub asking_start : (ws : List ℕ) (a : ℕ) (q : List ℕ) → Asking ws 0 a q
-asking_start ws a q ks b = record { rest = ks; there = b.words; in_range = b.in_range; same = refl }
-
 -- where the next request starts
 abbrev pub next_ask : List ℕ → (at : ℕ) → ℕ
-next_ask ws at = at + item_head + get_or ws (at + item_length_word) 0
+next_ask ws at = at + (item_head + get_or ws (at + item_length_word) 0)
 
 -- the request at hand stands whole in the list, with numbers in range
 pub record WholeAsk (ws : List ℕ) (at : ℕ) : Type 0 where
@@ -81,6 +78,7 @@ module _ (ws : List ℕ) (at a : ℕ) (q : List ℕ) (s : Asking ws at a q) wher
           sym (get_or-drop at ws delivery_word 0) ∙ ap (λ (l : List ℕ). get_or l delivery_word 0) w in
           let n : get_or ws (at + item_length_word) 0 ≡ length k.proof =
           sym (get_or-drop at ws item_length_word 0) ∙ ap (λ (l : List ℕ). get_or l item_length_word 0) w in
+          let far : next_ask ws at ≡ at + item_head + get_or ws (at + item_length_word) 0 = omega arith in
           let behind : drop (at + item_head) ws ≡ k.proof ++ asks_words rest = sym (drop-drop item_head at ws) ∙ ap (drop item_head) w in
           record {
             day = k.day;
@@ -93,7 +91,8 @@ module _ (ws : List ℕ) (at a : ℕ) (q : List ℕ) (s : Asking ws at a q) wher
             };
             rest = rest;
             there =
-                sym (drop-drop (get_or ws (at + item_length_word) 0) (at + item_head) ws) ∙ ap (drop (get_or ws (at + item_length_word) 0)) behind
+                ap (λ (j : ℕ). drop j ws) far
+                ∙ sym (drop-drop (get_or ws (at + item_length_word) 0) (at + item_head) ws) ∙ ap (drop (get_or ws (at + item_length_word) 0)) behind
                 ∙ drop_at k.proof (asks_words rest) (get_or ws (at + item_length_word) 0) (sym n);
             in_range = r.3;
             same = e ∙ rw (o, v, u) refl;
@@ -131,15 +130,6 @@ module _ (ws : List ℕ) (at a : ℕ) (q : List ℕ) (s : Asking ws at a q) wher
       go : (rest : List Ask) → drop at ws ≡ asks_words rest → receipted ks a q ≡ receipted rest a q → false ≡ receipted ks a q
       go [] w e = sym e
       go (k ∷ rest) w e = absurd (omega (arith, length-drop at ws, ap length w))
-
--- ---- what is known with the receipts
-
-module _ (h : Holding) (a : ℕ) (q : List ℕ) (ks : List Ask) (b : Bool) (is : b ≡ receipted ks a q) where
-  pub receipt_serves : b ≡ true → covered ≡ with_receipts ks h a q
-  receipt_serves e = sym (ap (λ (x : Bool). cond x covered (h a q)) (sym is ∙ e))
-
-  pub no_receipt_serves : b ≡ false → {x : Holds} → x ≡ h a q → x ≡ with_receipts ks h a q
-  no_receipt_serves e f = f ∙ sym (ap (λ (x : Bool). cond x covered (h a q)) (sym is ∙ e))
 
 -- no words are those of no request
 pub none_asked : AskedBefore [] []

@@ -2,10 +2,14 @@
 use Prim.Native.Nat.{ℕ, zero, suc, ◌+◌, ◌-◌, ◌≤◌}
 use native.Mathlib.Omega.{arith}
 use mathlib.Core.Path.{◌≡◌, refl, sym, ap, subst, ◌∙◌}
-use mathlib.Core.List.{List, []}
-use mathlib.Core.Option.{Option, some, none, map}
+use mathlib.Core.List.{List, [], ◌∷◌, ◌++◌, append-nil}
+use mathlib.Core.Option.{Option, some, none}
+use Rattle.std.specs.Prelude.{Some, None}
+use Rattle.std.specs.Prelude.{Option as Maybe}
+use Rattle.std.proofs.lemmas.Option.{none-some, same_Some}
 use lib.Dec.{ltb, leb}
-use lib.ListN.{length}
+use lib.ListN.{length, take, drop}
+use lib.Seq.{take-length}
 use borrow.Author.Tests.{leb-true, ltb-true, lt-ltb}
 use Rattle.logic.specs.Limits.{most_words}
 use Rattle.logic.specs.Refusals.{step_remains}
@@ -13,7 +17,6 @@ use Rattle.logic.specs.Result.{Result, ok, refused, ◌>>=◌, ◌>>◌}
 use Rattle.logic.specs.Term.{Term, size}
 use Rattle.logic.specs.Typing.{Has}
 use Rattle.logic.specs.Reading.{Plain}
-use Rattle.logic.proofs.Basics.{clash, some_inj}
 use Rattle.logic.proofs.Results.{ok_inj, bound, tested, followed, bind_is, pass}
 use Rattle.logic.proofs.Stopped.{not_mapped, stop}
 use Rattle.logic.proofs.SubjectReduction.{subject_reduction}
@@ -25,11 +28,8 @@ use Rattle.reduction.specs.Call.{fitting_result, simplify_into}
 use Rattle.reduction.proofs.Steps.{next_some}
 use Rattle.reduction.proofs.Types.{step_plain}
 use Rattle.steps.proofs.StepWords.{unique_at}
-use Rattle.simplify.specs.Turn.{Turnable, turned, turn_answer, TurnedTo}
-use Rattle.simplify.specs.Answers.{Subject, at_last, SimplifiedAs}
-use Rattle.simplify.specs.declared.reduce.Simplification.{Simplification}
-use Rattle.simplify.specs.declared.reduce.Turn.{Turn}
-use Rattle.simplify.specs.declared.reduce.Turn.TheVariants.{Stepped, Settled, Refused}
+use Rattle.simplify.specs.Turn.{Turnable, turned, words_of, TurnedTo}
+use Rattle.simplify.specs.Answers.{Subject}
 
 -- ---- the definition, a turn at a time
 
@@ -102,9 +102,9 @@ record Took (left : ℕ) (q : Option Term) (m : ℕ) (new : List ℕ) : Type 0 w
   pub count : m ≡ size u
   pub here : At new 0 u
 
-took : (left : ℕ) (q : Option Term) {r : Turn} {m : ℕ} {new : List ℕ} → TurnedTo (turned left q) new r → r ≡ Stepped m → Took left q m new
-took left none k e = absurd (clash (cc (sym (ap turn_answer e) ∙ k.answer)))
-took left (some u) {m = m} {new} k e = bound (turned left (some u)) _ (sym k.answer ∙ ap turn_answer e) λ v i j.
+took : (left : ℕ) (q : Option Term) {r : Result (Maybe ℕ)} {m : ℕ} {new : List ℕ} → TurnedTo (turned left q) new r → r ≡ ok (Some m) → Took left q m new
+took left none k e = absurd (none-some _ (ok_inj (sym k.answer ∙ e)))
+took left (some u) {m = m} {new} k e = bound (turned left (some u)) _ (sym k.answer ∙ e) λ v i j.
     tested (ltb 0 left) step_remains 0 _ i λ b i₁. followed (in_limits u) _ i₁ λ x l i₂.
     tested (leb (size u) most_words) _ _ _ l λ w _.
     let same = ok_inj i₂ in
@@ -116,7 +116,7 @@ took left (some u) {m = m} {new} k e = bound (turned left (some u)) _ (sym k.ans
       step = refl;
       some_left = omega arith;
       small = leb-true (size u) most_words w;
-      count = some_inj (ok_inj (sym j ∙ ap (λ y. ok (map size y)) (sym same)));
+      count = same_Some _ _ (ok_inj (sym j ∙ ap (λ y. ok (words_of y)) (sym same)));
       here = k.front u is;
     }
 
@@ -129,52 +129,55 @@ module _ {start : List ℕ} {budget : ℕ} {ws : List ℕ} {n left : ℕ} (T : S
       simplify budget t ≡ after_steps (budget - left) (follows left T.subject.term o)
   by_turn t h e = T.so_far t h ∙ ap (after_steps (budget - left)) (simplify_turn left T.subject.term ∙ ap (follows left T.subject.term) e)
 
-  -- a step was taken
-  module _ {new : List ℕ} {r : Turn} {m : ℕ} (k : TurnedTo turn_of new r) (e : r ≡ Stepped m) where
-    pub some_left : 1 ≤ left
-    some_left = (took left (next_step T.subject.term) k e).some_left
+  module _ {new : List ℕ} {r : Result (Maybe ℕ)} (k : TurnedTo turn_of new r) where
+    -- a step was taken
+    module _ {m : ℕ} (e : r ≡ ok (Some m)) where
+      pub some_left : 1 ≤ left
+      some_left = (took left (next_step T.subject.term) k e).some_left
 
-    pub next_turn : StepTurn start budget new m (left - 1)
-    next_turn =
-        let s = T.subject in
-        let f = took left (next_step s.term) k e in
-        record {
-          subject = record {
-            term = f.u;
-            here = f.here;
-            count = f.count;
-            short = f.small;
-            Σ = s.Σ;
-            signature = s.signature;
-            type = s.type;
-            typed = step_typed s f.u f.step;
-          };
-          within = omega (arith, T.within);
-          so_far = λ t h. by_turn t h f.is
-              ∙ one_more (budget - left) (budget - (left - 1)) (simplify (left - 1) f.u) (omega (arith, T.within, f.some_left));
-        }
+      pub next_turn : StepTurn start budget new m (left - 1)
+      next_turn =
+          let s = T.subject in
+          let f = took left (next_step s.term) k e in
+          record {
+            subject = record {
+              term = f.u;
+              here = f.here;
+              count = f.count;
+              short = f.small;
+              Σ = s.Σ;
+              signature = s.signature;
+              type = s.type;
+              typed = step_typed s f.u f.step;
+            };
+            within = omega (arith, T.within);
+            so_far = λ t h. by_turn t h f.is
+                ∙ one_more (budget - left) (budget - (left - 1)) (simplify (left - 1) f.u) (omega (arith, T.within, f.some_left));
+          }
 
-  -- none was taken: the answer is that of the last turn
-  pub last_turn : (r : Turn) {new : List ℕ} → TurnedTo turn_of new r → ((m : ℕ) → r ≡ Stepped m → ⊥) → (room : ℕ) (t : Term) → At start 0 t →
-      simplify_into budget room t ≡ at_last r (budget - left) T.subject.term room
-  last_turn (Stepped m) k e room t h = absurd (e m refl)
-  last_turn Settled k e room t h = bound turn_of _ (sym k.answer) λ v i j.
-      let z : budget - left + 0 ≡ budget - left = omega arith in
-      bind_is (fitting_result room) (by_turn t h (i ∙ ap ok (unmapped v (ok_inj j))))
-      (ap (λ (x : ℕ). fitting_result room (record { steps = x; result = T.subject.term })) z)
-    where
-      unmapped : (v : Option Term) → map size v ≡ none → v ≡ none
-      unmapped none e = refl
-      unmapped (some u) e = absurd (clash (cc))
-  last_turn (Refused m p) k e room t h = stop (fitting_result room) (by_turn t h (not_mapped (map size) turn_of (sym k.answer)))
+    -- none is left: this is the result
+    pub last_turn : r ≡ ok None → (room : ℕ) (t : Term) → At start 0 t →
+        simplify_into budget room t ≡ fitting_result room (record { steps = budget - left; result = T.subject.term })
+    last_turn e room t h = bound turn_of _ (sym k.answer ∙ e) λ v i j.
+        let z : budget - left + 0 ≡ budget - left = omega arith in
+        bind_is (fitting_result room) (by_turn t h (i ∙ ap ok (no_words v (ok_inj j))))
+        (ap (λ (x : ℕ). fitting_result room (record { steps = x; result = T.subject.term })) z)
+      where
+        no_words : (v : Option Term) → words_of v ≡ None → v ≡ none
+        no_words none e = refl
+        no_words (some u) e = absurd (none-some _ (sym e))
+
+    -- the turn was refused
+    pub refused_turn : (m p : ℕ) → r ≡ refused m p → (room : ℕ) (t : Term) → At start 0 t → simplify_into budget room t ≡ refused m p
+    refused_turn m p e room t h = stop (fitting_result room) (by_turn t h (not_mapped words_of turn_of (sym k.answer ∙ e)))
 
 -- ---- the loop
 
 -- both lists have just as many words as a term may have, and the output is as it was
-pub record Looping (start out : List ℕ) (budget : ℕ) (one other output : List ℕ) (n left : ℕ) : Type 0 where
-  pub turn : StepTurn start budget one n left
-  pub just : length one ≡ most_words
-  pub just_other : length other ≡ most_words
+pub record Looping (start out : List ℕ) (budget : ℕ) (from into output : List ℕ) (n left : ℕ) : Type 0 where
+  pub turn : StepTurn start budget from n left
+  pub just : length from ≡ most_words
+  pub just_other : length into ≡ most_words
   pub same_output : output ≡ out
 
 pub turnable : {start : List ℕ} {budget : ℕ} {ws : List ℕ} {n left room : ℕ} → StepTurn start budget ws n left → room ≡ most_words → Turnable ws n room
@@ -186,11 +189,23 @@ turnable T e =
 pub term_within : {start : List ℕ} {budget : ℕ} {ws : List ℕ} {n left : ℕ} → StepTurn start budget ws n left → n ≤ length ws
 term_within T = let l = at_end T.subject.here in omega (arith, T.subject.count)
 
--- what is answered behind the last turn is the answer
-pub last_answer : {start : List ℕ} {budget : ℕ} {ws : List ℕ} {n left : ℕ} (T : StepTurn start budget ws n left) (r : Turn) {mid : List ℕ} →
-    TurnedTo (turned left (next_step T.subject.term)) mid r → ((m : ℕ) → r ≡ Stepped m → ⊥) → {out output new : List ℕ} {a : Simplification} →
-    output ≡ out → ((t : Term) → At ws 0 t → n ≡ size t → SimplifiedAs (at_last r (budget - left) t (length output)) output new a) →
-    (t : Term) → At start 0 t → SimplifiedAs (simplify_into budget (length out) t) out new a
-last_answer T r k e {out} {new = new} {a} q f t h =
-    let s = T.subject in
-    subst (λ o. SimplifiedAs o out new a) (sym (last_turn T r k e (length out) t h)) (rw q at (f s.term s.here s.count))
+-- what is lent of a list is the whole of it
+pub lent_turn : {start : List ℕ} {budget : ℕ} {ws : List ℕ} {n left : ℕ} → StepTurn start budget ws n left →
+    StepTurn start budget (take (length ws) ws) n left
+lent_turn {start} {budget} {ws} {n} {left} T = subst (λ l. StepTurn start budget l n left) (sym (take-length ws)) T
+
+drop_whole : (ws : List ℕ) → drop (length ws) ws ≡ []
+drop_whole [] = refl
+drop_whole (w ∷ ws) = drop_whole ws
+
+-- behind a turn the two lists change places
+pub changed : {start out from into output new x y : List ℕ} {budget n left m l : ℕ} → Looping start out budget from into output n left →
+    StepTurn start budget new m l → length new ≡ length into → x ≡ new ++ drop (length into) into → y ≡ from → Looping start out budget x y output m l
+changed {start} {from = from} {into} {new = new} {budget = budget} {m = m} {l} L T k e f =
+    let g : new ++ drop (length into) into ≡ new = ap (λ (r : List ℕ). new ++ r) (drop_whole into) ∙ append-nil new in
+    record {
+      turn = subst (λ z. StepTurn start budget z m l) (sym (e ∙ g)) T;
+      just = ap length (e ∙ g) ∙ k ∙ L.just_other;
+      just_other = ap length f ∙ L.just;
+      same_output = L.same_output;
+    }

@@ -1,17 +1,14 @@
 -- What simplifying answers, and the output.
 use Rattle.std.specs.Prelude.{ℕ, ◌≤◌, ◌≡◌, List, []}
 use Rattle.logic.specs.Limits.{most_words}
-use Rattle.logic.specs.Result.{Result, ok, refused, ◌>>=◌}
+use Rattle.logic.specs.Result.{Result, ok, ◌>>=◌}
 use Rattle.logic.specs.Term.{Term, size}
 use Rattle.logic.specs.Typing.{Has}
 use Rattle.logic.specs.Scope.{Signature}
 use Rattle.words.specs.Place.{At}
 use Rattle.reduction.specs.Simplify.{Simplified}
-use Rattle.reduction.specs.Call.{fitting_result, after_simplify}
-use Rattle.simplify.specs.Turn.{turn_answer}
-use Rattle.simplify.specs.declared.reduce.Turn.{Turn}
-use Rattle.simplify.specs.declared.reduce.Simplification.{Simplification}
-use Rattle.simplify.specs.declared.reduce.Simplification.TheVariants.{Done, Refused}
+use Rattle.reduction.specs.Call.{after_simplify}
+use Rattle.simplify.specs.declared.reduce.Simplified.{Simplified as Counts}
 
 -- the words of a typed term, n in number, stand in front of a list
 pub record Subject (ws : List ℕ) (n : ℕ) : Type 0 where
@@ -30,19 +27,11 @@ pub record Reducible (one : List ℕ) (n len room : ℕ) : Type 0 where
   pub just : len ≡ most_words
   pub just_other : room ≡ most_words
 
--- behind the last turn: its refusal, or t as the result, behind so many steps, if there is room
-abbrev pub at_last : Turn → (steps : ℕ) → Term → (room : ℕ) → Result Simplified
-at_last last steps t room = turn_answer last >>= λ q. fitting_result room (record { steps = steps; result = t })
-
--- number, place and values of each case: the number of steps, and of the result's words
-abbrev pub simplification_answer : Simplification → Result (ℕ × ℕ)
-simplification_answer (Done steps words) = ok (steps, words)
-simplification_answer (Refused m p) = refused m p
-
-abbrev pub counts_of : Result Simplified → Result (ℕ × ℕ)
-counts_of o = o >>= λ s. ok (s.steps, size s.result)
+-- the number of steps, and of the result's words
+abbrev pub counts_of : Result Simplified → Result Counts
+counts_of o = o >>= λ s. ok (record { steps = s.steps; words = size s.result })
 
 -- the answer, and the whole output
-pub record SimplifiedAs (o : Result Simplified) (old new : List ℕ) (r : Simplification) : Type 0 where
-  pub answer : simplification_answer r ≡ counts_of o
+pub record SimplifiedAs (o : Result Simplified) (old new : List ℕ) (r : Result Counts) : Type 0 where
+  pub answer : r ≡ counts_of o
   pub output : new ≡ after_simplify o old

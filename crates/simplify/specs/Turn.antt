@@ -1,16 +1,15 @@
 -- One turn: the first step of a term, within the budget and the limits.
-use Rattle.std.specs.Prelude.{ℕ, ◌≤◌, ◌≡◌, List, ltb}
-use Rattle.std.proofs.Math.Option.{Option, some, none, map}
+use Rattle.std.specs.Prelude.{ℕ, ◌≤◌, ◌≡◌, List, ltb, Some, None}
+use Rattle.std.specs.Prelude.{Option as Maybe}
+use Rattle.std.proofs.Math.Option.{Option, some, none}
 use Rattle.logic.specs.Limits.{most_words}
 use Rattle.logic.specs.Refusals.{step_remains}
-use Rattle.logic.specs.Result.{Result, ok, refused, ◌>>=◌, ◌>>◌, require}
+use Rattle.logic.specs.Result.{Result, ok, ◌>>=◌, ◌>>◌, require}
 use Rattle.logic.specs.Term.{Term, size}
 use Rattle.logic.specs.Reading.{Plain}
 use Rattle.words.specs.Place.{At}
 use Rattle.reduction.specs.Steps.{next_step}
 use Rattle.reduction.specs.Simplify.{in_limits}
-use Rattle.simplify.specs.declared.reduce.Turn.{Turn}
-use Rattle.simplify.specs.declared.reduce.Turn.TheVariants.{Stepped, Settled, Refused}
 
 -- the words of a term, n in number, stand in front of a list, words can give the result of its step, and for that there
 -- is room for just as many as a term may have
@@ -30,13 +29,12 @@ turned left (some u) = do
   in_limits u
   ok (some u)
 
--- number, place and value of each case: the words of the result, if a step was left
-abbrev pub turn_answer : Turn → Result (Option ℕ)
-turn_answer (Stepped n) = ok (some n)
-turn_answer Settled = ok none
-turn_answer (Refused m p) = refused m p
+-- how many words the result has, if a step was left
+abbrev pub words_of : Option Term → Maybe ℕ
+words_of none = None
+words_of (some u) = Some (size u)
 
 -- the answer, and the result's words in front
-pub record TurnedTo (o : Result (Option Term)) (new : List ℕ) (r : Turn) : Type 0 where
-  pub answer : turn_answer r ≡ (o >>= λ q. ok (map size q))
+pub record TurnedTo (o : Result (Option Term)) (new : List ℕ) (r : Result (Maybe ℕ)) : Type 0 where
+  pub answer : r ≡ (o >>= λ q. ok (words_of q))
   pub front : (u : Term) → o ≡ ok (some u) → At new 0 u

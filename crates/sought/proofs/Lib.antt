@@ -1,2 +1,2 @@
--- Laws of one item against a statement sought.
+-- Laws of a statement sought.
 pub mod ItemTells

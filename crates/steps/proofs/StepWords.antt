@@ -1,10 +1,10 @@
 -- The words of a step's result: those before the node, those of what a rule makes of it, and those behind it.
 use Prim.Native.Nat.{ℕ, ◌+◌, ◌≤◌, ◌<◌}
 use native.Mathlib.Omega.{arith}
-use mathlib.Core.Path.{◌≡◌, sym, ap, ap₂, subst, ◌∙◌}
+use mathlib.Core.Path.{◌≡◌, refl, sym, ap, ap₂, subst, ◌∙◌}
 use mathlib.Core.List.{List, ◌++◌, append_assoc}
-use mathlib.Core.Option.{some, none}
-use mathlib.Core.Bool.{cond}
+use mathlib.Core.Option.{some}
+use mathlib.Core.Bool.{Bool, true, false, cond}
 use lib.Dec.{leb}
 use lib.ListN.{length, take, drop, length-append}
 use lib.Seq.{take_at, drop_at, drop-drop}
@@ -14,13 +14,13 @@ use Rattle.logic.proofs.Basics.{some_inj}
 use Rattle.logic.proofs.Words.{encode_size, plain_in_range, prefix_free}
 use Rattle.words.specs.Place.{At, written_at}
 use Rattle.words.proofs.Lists.{written_then}
-use Rattle.moves.specs.Fill.{FilledTo, filled_answer}
+use Rattle.moves.specs.Fill.{FilledTo}
 use Rattle.moves.specs.declared.fill.Filled.{Filled}
-use Rattle.moves.specs.declared.fill.Filled.TheVariants.{Done as Full, Over as NoRoom}
-use Rattle.moves.proofs.Cases.{cond_given, cond_not_given}
+use Rattle.std.specs.Prelude.{Some, None}
+use Rattle.std.specs.Prelude.{Option as Maybe}
+use Rattle.std.proofs.lemmas.Option.{cond_some}
 use Rattle.reduction.specs.Steps.{next_step}
 use Rattle.steps.specs.Step.{SteppedTo}
-use Rattle.steps.specs.declared.step.Stepped.TheVariants.{Done, Over}
 use Rattle.steps.proofs.Sites.{Site}
 
 -- one term stands at a place
@@ -98,15 +98,15 @@ module _ {ws : List ℕ} {t u : Term} {at : ℕ} (h : At ws 0 t) (s : Site 0 t u
 
 -- ---- answers
 
-pub step_over : {u : Term} {old new : List ℕ} → length old < size u → SteppedTo u old new Over
+pub step_over : {u : Term} {old new : List ℕ} → length old < size u → SteppedTo u old new None
 step_over {u} {old} l = record {
-  answer = sym (ap (λ b. cond b (some (size u)) none) (lt-leb (size u) (length old) l));
+  answer = sym (ap (λ b. cond b (Some (size u)) None) (lt-leb (size u) (length old) l));
   words = λ k. absurd (omega arith);
 }
 
-pub step_formed : {u : Term} {old new : List ℕ} {r : ℕ} → size u ≤ length old → r ≡ size u → new ≡ written_at old 0 (encode u) → SteppedTo u old new (Done r)
+pub step_formed : {u : Term} {old new : List ℕ} {r : ℕ} → size u ≤ length old → r ≡ size u → new ≡ written_at old 0 (encode u) → SteppedTo u old new (Some r)
 step_formed {u} {old} l e w = record {
-  answer = ap some e ∙ sym (ap (λ b. cond b (some (size u)) none) (le-leb (size u) (length old) l));
+  answer = ap Some e ∙ sym (ap (λ b. cond b (Some (size u)) None) (le-leb (size u) (length old) l));
   words = λ k. w;
 }
 
@@ -116,14 +116,18 @@ pub record FilledFrom (at : ℕ) (u : Term) (old new : List ℕ) (end : ℕ) : T
   pub end_is : end ≡ at + size u
   pub words : new ≡ written_at old at (encode u)
 
-pub filled_from : {t v : Term} {u : Term} {from at : ℕ} {old new : List ℕ} {r : Filled} {next end : ℕ} → v ≡ u → FilledTo t v from old at new r →
-    r ≡ Full next end → FilledFrom at u old new end
-filled_from {t} {v} {u} {from} {at} {old} {new} {end = end} i f e =
-    let (b, q) = cond_given (leb (at + size v) (length old)) (from + size t, at + size v) (sym (ap filled_answer e) ∙ f.answer) in
+pub filled_from : {t v : Term} {u : Term} {from at : ℕ} {old new : List ℕ} {r : Maybe Filled} {f : Filled} → v ≡ u → FilledTo t v from old at new r →
+    r ≡ Some f → FilledFrom at u old new f.end
+filled_from {t} {v} {u} {from} {at} {old} {new} {f = f} i w e =
+    let (b, q) = cond_some (leb (at + size v) (length old)) _ f (sym w.answer ∙ e) in
     let l = leb-true (at + size v) (length old) b in
-    subst (λ x. FilledFrom at x old new end) i (record { fits = l; end_is = ap (λ (x : ℕ × ℕ). x.1) q; words = f.words l })
+    subst (λ x. FilledFrom at x old new f.end) i (record { fits = l; end_is = sym (ap (λ (x : Filled). x.end) q); words = w.words l })
 
-pub filled_over : {t v : Term} {u : Term} {from at : ℕ} {old new : List ℕ} {r : Filled} → v ≡ u → FilledTo t v from old at new r → r ≡ NoRoom →
+pub cond_none : {X : Type 0} (b : Bool) (x : X) → cond b (Some x) None ≡ None → b ≡ false
+cond_none true x e = absurd (cc)
+cond_none false x e = refl
+
+pub filled_over : {t v : Term} {u : Term} {from at : ℕ} {old new : List ℕ} {r : Maybe Filled} → v ≡ u → FilledTo t v from old at new r → r ≡ None →
     length old < at + size u
 filled_over {t} {v} {u} {from} {at} {old} i f e = rw i at
-    (leb-false (at + size v) (length old) (cond_not_given (leb (at + size v) (length old)) (from + size t, at + size v) (sym (ap filled_answer e) ∙ f.answer)))
+    (leb-false (at + size v) (length old) (cond_none (leb (at + size v) (length old)) _ (sym f.answer ∙ e)))

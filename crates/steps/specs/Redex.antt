@@ -1,13 +1,12 @@
 -- Where the first step of a term is taken.
-use Rattle.std.specs.Prelude.{ℕ, ◌+◌, ◌≤◌, cond, List}
+use Rattle.std.specs.Prelude.{ℕ, ◌+◌, ◌≤◌, cond, List, Some, None}
+use Rattle.std.specs.Prelude.{Option as Maybe}
 use Rattle.std.proofs.Math.Option.{Option, some, none, map}
 use Rattle.logic.specs.Limits.{payloads}
 use Rattle.logic.specs.Term.{Term, atom, var, sign, node, size}
 use Rattle.logic.specs.Reading.{or_else}
 use Rattle.words.specs.Place.{At}
 use Rattle.reduction.specs.Steps.{contracted, steps_first, steps_second}
-use Rattle.steps.specs.declared.redex.Redex.{Redex}
-use Rattle.steps.specs.declared.redex.Redex.TheVariants.{Place, Nowhere}
 
 -- a term stands at a place, and there is room for a copy of it
 pub record TermWithRoom (ws : List ℕ) (at len : ℕ) : Type 0 where
@@ -26,6 +25,6 @@ first_place at (node o a b) =
     (cond (steps_second o) (first_place (at + 1 + size a) b) none))
 
 -- the values of each case
-abbrev pub redex_answer : Redex → Option ℕ
-redex_answer (Place p) = some p
-redex_answer Nowhere = none
+abbrev pub redex_answer : Maybe ℕ → Option ℕ
+redex_answer (Some p) = some p
+redex_answer None = none

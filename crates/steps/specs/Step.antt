@@ -1,6 +1,7 @@
 -- The words of a step's result.
-use Rattle.std.specs.Prelude.{ℕ, ◌+◌, ◌≤◌, ◌<◌, ◌≡◌, cond, List, leb, length}
-use Rattle.std.proofs.Math.Option.{Option, some, none}
+use Rattle.std.specs.Prelude.{ℕ, ◌+◌, ◌≤◌, ◌<◌, ◌≡◌, cond, List, leb, length, Some, None}
+use Rattle.std.specs.Prelude.{Option as Maybe}
+use Rattle.std.proofs.Math.Option.{some}
 use Rattle.logic.specs.Limits.{payloads}
 use Rattle.logic.specs.Term.{Op, Term, node, encode, size}
 use Rattle.logic.specs.Move.{fill}
@@ -8,8 +9,6 @@ use Rattle.words.specs.Place.{At, written_at}
 use Rattle.reduction.specs.Steps.{contracted}
 use Rattle.steps.specs.Redex.{first_place}
 use Rattle.steps.specs.declared.step.Filling.{Filling}
-use Rattle.steps.specs.declared.step.Stepped.{Stepped}
-use Rattle.steps.specs.declared.step.Stepped.TheVariants.{Done, Over}
 
 -- a node stands at a place at whose root a rule fits
 pub record RedexAt (ws : List ℕ) (at : ℕ) : Type 0 where
@@ -41,12 +40,7 @@ pub record Steppable (ws : List ℕ) (n at room : ℕ) : Type 0 where
   pub few : size term ≤ payloads
   pub fits : size term ≤ room
 
--- the values of each case: how many words the result has
-abbrev pub stepped_answer : Stepped → Option ℕ
-stepped_answer (Done n) = some n
-stepped_answer Over = none
-
--- the words of u are written at the front, if there is room
-pub record SteppedTo (u : Term) (old new : List ℕ) (r : Stepped) : Type 0 where
-  pub answer : stepped_answer r ≡ cond (leb (size u) (length old)) (some (size u)) none
+-- the answer is how many words the result has, and the words of u are written at the front, if there is room
+pub record SteppedTo (u : Term) (old new : List ℕ) (r : Maybe ℕ) : Type 0 where
+  pub answer : r ≡ cond (leb (size u) (length old)) (Some (size u)) None
   pub words : size u ≤ length old → new ≡ written_at old 0 (encode u)

@@ -9,63 +9,42 @@ use logic::word::{APP, BIND, LAM, RET};
 use moves::shift::shift_into;
 use parts::skip;
 
-// The place of the first step, if there is one.
-#[derive(Drop)]
-pub enum Redex {
-    Place(usize),
-    Nowhere,
-}
-
 // Whether the body that stands at `at` does not use its binder. "Counted from a body's variable 0 on and from 1 on, the
 // two differ by the uses of its binder": a shift by 0 counts, of a copy of the body in `scratch`.
 fn unused(words: &[u32], at: usize, scratch: &mut [u32]) -> bool
     requires { TermWithRoom words.now at (length scratch.old) }
     ensures { (b : Term) → At words.now at b → result ≡ eqb (occurs 0 b) 0 }
 {
-    let end = skip(words, at);
-    let body = &words[at..end];
-    let from_0 = shift_into(body, 0, 0, scratch, 0);
-    let from_1 = shift_into(body, 1, 0, scratch, 0);
-    from_0.free == from_1.free
+    let body = &words[at..skip(words, at)];
+    let from_0 = shift_into(body, 0, 0, scratch, 0).free;
+    let from_1 = shift_into(body, 1, 0, scratch, 0).free;
+    from_0 == from_1
 }
 
-// The place of the first step of the term that stands at `at`: a node's own comes before those in its children. What
-// `scratch` holds afterwards is free.
-pub fn first_step(words: &[u32], at: usize, scratch: &mut [u32]) -> Redex
+// The place of the first step of the term that stands at `at`, if there is one: a node's own comes before those in its
+// children. What `scratch` holds afterwards is free.
+pub fn first_step(words: &[u32], at: usize, scratch: &mut [u32]) -> Option<usize>
     requires { TermWithRoom words.now at (length scratch.old) }
     ensures { (t : Term) → At words.now at t → redex_answer result ≡ first_place at t }
 {
-    let word = words[at];
-    let app = word == APP;
-    if app {
-        let lam = words[at + 1] == LAM;
-        if lam {
-            return Redex::Place(at);
+    match words[at] {
+        APP if words[at + 1] == LAM => Some(at),
+        APP => first_step(words, at + 1, scratch),
+        BIND if words[at + 1] == RET => Some(at),
+        BIND => {
+            let body = skip(words, at + 1);
+            if unused(words, body, scratch) {
+                return Some(at);
+            }
+            match first_step(words, at + 1, scratch) {
+                Some(place) => Some(place),
+                None => first_step(words, body, scratch),
+            }
         }
-        return first_step(words, at + 1, scratch);
-    }
-    let bind = word == BIND;
-    if bind {
-        let ret = words[at + 1] == RET;
-        if ret {
-            return Redex::Place(at);
+        LAM | RET => {
+            let second = skip(words, at + 1);
+            first_step(words, second, scratch)
         }
-        let body = skip(words, at + 1);
-        let removed = unused(words, body, scratch);
-        if removed {
-            return Redex::Place(at);
-        }
-        let found = first_step(words, at + 1, scratch);
-        let Redex::Nowhere = found else {
-            return found;
-        };
-        return first_step(words, body, scratch);
+        _ => None,
     }
-    let lam = word == LAM;
-    let ret = word == RET;
-    if lam || ret {
-        let next = skip(words, at + 1);
-        return first_step(words, next, scratch);
-    }
-    Redex::Nowhere
 }

@@ -10,28 +10,25 @@ use Rattle.logic.specs.Term.{Term, size}
 use Rattle.logic.specs.Scope.{no_binder}
 use Rattle.logic.specs.Infer.{infer}
 use Rattle.logic.specs.Check.{term_of, WordsOf}
-use Rattle.logic.proofs.Results.{bind_is}
-use Rattle.logic.proofs.Stopped.{stop}
+use Rattle.logic.proofs.Results.{bind_is, followed}
+use Rattle.logic.proofs.Stopped.{stop, stopped_then, not_refused}
 use Rattle.logic.proofs.Check.{term_of_right}
-use Rattle.words.specs.Verdict.{verdict_answer}
-use Rattle.words.specs.declared.verdict.Verdict.{Verdict}
-use Rattle.words.specs.declared.verdict.Verdict.TheVariants.{Passed}
 use Rattle.words.proofs.Places.{is_at, size_is}
-use Rattle.words.proofs.Verdicts.{passed_told}
 use Rattle.rules.specs.Scope.{no_entries}
 use Rattle.rules.specs.Form.{type_and_end}
 use Rattle.typing.specs.Derive.{Derived, SubjectAt}
 use Rattle.typing.specs.Check.{ConstantsOf, typed_term, Judged}
-use Rattle.rules.specs.declared.derivation.Derivation.{Derivation}
-use Rattle.rules.specs.declared.derivation.Derivation.TheVariants.{Refused}
-
-pub judged_refused : (o : Result Term) (end : ℕ) (new : List ℕ) (m p : ℕ) → o ≡ refused m p → Judged o end new (Refused m p)
-judged_refused o end new m p e = subst (λ (x : Result Term). Judged x end new (Refused m p)) (sym e) (record { answer = refl; front = tt })
+use Rattle.std.specs.Prelude.{Result as Answer}
+use Rattle.logic.specs.Answer.{answer as told}
+use Rattle.logic.specs.declared.refusal.Refusal.{Refusal}
+use Rattle.rules.specs.declared.typed.Typed.{Typed}
 
 -- the tests before the derivation refuse
-pub refused_term : (Σ : List Term) (most deep : ℕ) (ws new : List ℕ) (m p : ℕ) → term_of most deep ws ≡ refused m p →
-    Judged (typed_term Σ most deep ws) (length ws) new (Refused m p)
-refused_term Σ most deep ws new m p e = judged_refused _ _ new m p (stop (λ t. infer Σ [] 0 t) e)
+pub refused_term : {r : Answer Typed Refusal} (Σ : List Term) (most deep : ℕ) (ws new : List ℕ) {m p : ℕ}
+    → without_value (term_of most deep ws) ≡ refused m p → told r ≡ refused m p → Judged (typed_term Σ most deep ws) (length ws) new r
+refused_term {r} Σ most deep ws new e q =
+    let i = stop (λ t. infer Σ [] 0 t) (stopped_then (term_of most deep ws) _ e (λ i. i) λ x i j. absurd (not_refused j)) in
+    subst (λ (x : Result Term). Judged x (length ws) new r) (sym i) (record { answer = q; front = tt })
 
 -- the term that passed them
 pub record TermIn (most deep : ℕ) (ws : List ℕ) : Type 0 where
@@ -39,10 +36,8 @@ pub record TermIn (most deep : ℕ) (ws : List ℕ) : Type 0 where
   pub passed : term_of most deep ws ≡ ok term
   pub words : WordsOf most deep ws term
 
-pub term_in : (most deep : ℕ) (ws : List ℕ) (r : Verdict) → verdict_answer r ≡ without_value (term_of most deep ws) → r ≡ Passed → TermIn most deep ws
-term_in most deep ws r e f =
-    let (t, i) = passed_told (term_of most deep ws) r e f in
-    record { term = t; passed = i; words = (term_of_right most deep ws t).0 i }
+pub term_in : (most deep : ℕ) (ws : List ℕ) → without_value (term_of most deep ws) ≡ ok tt → TermIn most deep ws
+term_in most deep ws e = followed (term_of most deep ws) _ e λ t i j. record { term = t; passed = i; words = (term_of_right most deep ws t).0 i }
 
 -- with no binders, a term that is not too deep is ready
 pub ready_term : (sig table proof ws : List ℕ) (most deep : ℕ) (Σ : List Term) (t : Term) → ConstantsOf sig table Σ → WordsOf most deep proof t
@@ -58,7 +53,7 @@ ready_term sig table proof ws most deep Σ t C w l = record {
 }
 
 -- the type of a term that passed is that of its derivation
-pub judged_term : (Σ : List Term) (most deep : ℕ) (ws old new : List ℕ) (T : TermIn most deep ws) (r : Derivation) →
+pub judged_term : (Σ : List Term) (most deep : ℕ) (ws old new : List ℕ) (T : TermIn most deep ws) (r : Answer Typed Refusal) →
     Derived (infer Σ [] 0 T.term) (0 + size T.term) 0 old new r → Judged (typed_term Σ most deep ws) (length ws) new r
 judged_term Σ most deep ws old new T r d =
     let w = T.words in

@@ -18,8 +18,10 @@ use Rattle.logic.proofs.Words.{encode_size}
 use Rattle.logic.proofs.Check.{term_of_right}
 use Rattle.words.specs.Typed.{TypeAt}
 use Rattle.rules.specs.Form.{Front}
-use Rattle.rules.specs.declared.derivation.Derivation.{Derivation}
-use Rattle.rules.specs.declared.derivation.Derivation.TheVariants.{Typed, Refused}
+use Rattle.std.specs.Prelude.{Result as Answer}
+use Rattle.logic.specs.Answer.{answer as told}
+use Rattle.logic.specs.declared.refusal.Refusal.{Refusal}
+use Rattle.rules.specs.declared.typed.Typed.{Typed}
 use Rattle.rules.proofs.Fronts.{measured_fits, measured_long, typed_by, refused_by}
 use Rattle.typing.specs.Check.{typed_term, Judged}
 
@@ -47,12 +49,13 @@ module _ (Σ : List Term) (a : ℕ) where
     pub type : TypeAt new 0 A
     pub type_words : words ≡ size A
 
-  module _ (ws new : List ℕ) (r : Derivation) (end : ℕ) (J : Judged (typed_term Σ most_statement_words most_statement_nesting ws) end new r) where
-    pub statement_refused : (m p : ℕ) → r ≡ Refused m p → refused m p ≡ without_value (check_statement Σ a ws)
-    statement_refused m p q = sym (stop_then _ (passed_on (term_of most_statement_words most_statement_nesting ws) m p (refused_by _ end J.answer m p q)))
+  module _ (ws : List ℕ) {new : List ℕ} {r : Answer Typed Refusal} {end : ℕ}
+      (J : Judged (typed_term Σ most_statement_words most_statement_nesting ws) end new r) where
+    pub statement_refused : (m p : ℕ) → told r ≡ refused m p → refused m p ≡ without_value (check_statement Σ a ws)
+    statement_refused m p q = sym (stop_then _ (passed_on (term_of most_statement_words most_statement_nesting ws) m p (refused_by r _ end J.answer m p q)))
 
-    pub statement_typed : (words e : ℕ) → r ≡ Typed words e → TypedAs ws new words
-    statement_typed words e q = typed_by _ end J.answer words e q λ A i w l.
+    pub statement_typed : (t : Typed) → told r ≡ ok t → TypedAs ws new t.words
+    statement_typed t q = typed_by r _ end J.answer t q λ A i w l.
         let (q, j, s) = went_on (term_of most_statement_words most_statement_nesting ws) A i in
         record {
           q = q;
@@ -63,7 +66,7 @@ module _ (Σ : List Term) (a : ℕ) where
           type_words = w;
         }
 
-  module _ (ws new : List ℕ) (words : ℕ) (S : TypedAs ws new words) where
+  module _ {ws new : List ℕ} {words : ℕ} (S : TypedAs ws new words) where
     pub no_proposition : false ≡ same S.A P → refused condition_fails 0 ≡ without_value (check_statement Σ a ws)
     no_proposition e = sym (stop_then _ (S.is ∙ fail _ 0 _ (sym e)))
 

@@ -7,8 +7,11 @@ use Rattle.logic.specs.Scope.{Signature}
 use Rattle.logic.specs.Infer.{infer}
 use Rattle.logic.specs.Check.{term_of}
 use Rattle.rules.specs.Scope.{Declared}
-use Rattle.rules.specs.Form.{derivation_answer, type_and_end, Front}
-use Rattle.rules.specs.declared.derivation.Derivation.{Derivation}
+use Rattle.rules.specs.Form.{type_and_end, Front}
+use Rattle.std.specs.Prelude.{Result as Answer}
+use Rattle.logic.specs.Answer.{answer as told}
+use Rattle.logic.specs.declared.refusal.Refusal.{Refusal}
+use Rattle.rules.specs.declared.typed.Typed.{Typed}
 
 -- the constants' types, by the table, are those of a signature
 pub record ConstantsOf (sig table : List ℕ) (Σ : List Term) : Type 0 where
@@ -28,6 +31,6 @@ abbrev pub typed_term : List Term → (most deep : ℕ) → List ℕ → Result 
 typed_term Σ most deep ws = term_of most deep ws >>= λ t. infer Σ [] 0 t
 
 -- the answer, and the type at the front of the workspace
-pub record Judged (o : Result Term) (end : ℕ) (new : List ℕ) (r : Derivation) : Type 0 where
-  pub answer : derivation_answer r ≡ type_and_end o end
+pub record Judged (o : Result Term) (end : ℕ) (new : List ℕ) (r : Answer Typed Refusal) : Type 0 where
+  pub answer : told r ≡ type_and_end o end
   pub front : Front o new

@@ -7,12 +7,15 @@ use Rattle.logic.specs.Reading.{depth}
 use Rattle.logic.specs.Scope.{Signature, Context}
 use Rattle.words.specs.Place.{At}
 use Rattle.rules.specs.Scope.{tail, scope_words, Binders, Declared}
-use Rattle.rules.specs.Form.{derivation_answer, type_and_end, Front, front_words, level_words}
-use Rattle.rules.specs.declared.derivation.Derivation.{Derivation}
+use Rattle.rules.specs.Form.{type_and_end, Front, front_words, level_words}
+use Rattle.std.specs.Prelude.{Result as Answer}
+use Rattle.logic.specs.Answer.{answer as told}
+use Rattle.logic.specs.declared.refusal.Refusal.{Refusal}
+use Rattle.rules.specs.declared.typed.Typed.{Typed}
 
 -- a type is at the front, and the words kept at the end are as they were
-pub record Derived (o : Result Term) (end used : ℕ) (old new : List ℕ) (r : Derivation) : Type 0 where
-  pub answer : derivation_answer r ≡ type_and_end o end
+pub record Derived (o : Result Term) (end used : ℕ) (old new : List ℕ) (r : Answer Typed Refusal) : Type 0 where
+  pub answer : told r ≡ type_and_end o end
   pub front : Front o new
   pub kept : tail used new ≡ tail used old
 

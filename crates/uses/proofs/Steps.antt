@@ -1,23 +1,19 @@
 -- What each step of `uses` answers.
 use Prim.Native.Nat.{ℕ, ◌≤◌}
-use mathlib.Core.Path.{◌≡◌, sym, ap}
+use mathlib.Core.Path.{◌≡◌, sym, ap, ◌∙◌}
 use mathlib.Core.List.{List}
 use lib.IntN.{ℤ}
 use lib.ListN.{length}
 use Rattle.logic.specs.Limits.{payloads, most_words, most_nesting}
-use Rattle.logic.specs.Result.{ok, refused, without_value}
+use Rattle.logic.specs.Result.{Result, ok, refused, without_value}
 use Rattle.logic.specs.Term.{Term}
 use Rattle.logic.specs.Move.{free_from}
 use Rattle.logic.specs.Check.{term_of}
 use Rattle.logic.proofs.Check.{term_of_right}
-use Rattle.logic.proofs.Results.{bind_is}
-use Rattle.logic.proofs.Stopped.{stop}
+use Rattle.logic.proofs.Results.{bind_is, followed}
+use Rattle.logic.proofs.Stopped.{stop, stopped_then, not_refused}
 use Rattle.logic.proofs.FreeVariables.{free_past}
 use Rattle.words.specs.Place.{Is}
-use Rattle.words.specs.Verdict.{verdict_answer}
-use Rattle.words.specs.declared.verdict.Verdict.{Verdict}
-use Rattle.words.specs.declared.verdict.Verdict.TheVariants.{Passed, Refused}
-use Rattle.words.proofs.Verdicts.{refused_told, passed_told}
 use Rattle.moves.specs.Shift.{Shifted}
 use Rattle.moves.specs.declared.shift.Shift.{Shift}
 use Rattle.uses.specs.Uses.{uses_call}
@@ -29,13 +25,13 @@ pub record Tested (ws : List ℕ) : Type 0 where
   pub is : Is ws term
   pub short : length ws ≤ most_words
 
-module _ (k : ℕ) (ws : List ℕ) (r : Verdict) (told : verdict_answer r ≡ without_value (term_of most_words most_nesting ws)) where
-  pub term_refused : (m p : ℕ) → r ≡ Refused m p → refused m p ≡ uses_call k ws
-  term_refused m p e = sym (stop (λ t. ok (free_from k t)) (refused_told (term_of most_words most_nesting ws) r m p told e))
+module _ (k : ℕ) (ws : List ℕ) (r : Result (Unit {0})) (told : r ≡ without_value (term_of most_words most_nesting ws)) where
+  pub term_refused : (m p : ℕ) → r ≡ refused m p → refused m p ≡ uses_call k ws
+  term_refused m p e = sym (stop (λ t. ok (free_from k t)) (stopped_then (term_of most_words most_nesting ws) (ok tt) (sym told ∙ e) (λ i. i)
+      (λ t i j. absurd (not_refused j))))
 
-  pub term_passed : r ≡ Passed → Tested ws
-  term_passed e =
-      let (t, i) = passed_told (term_of most_words most_nesting ws) r told e in
+  pub term_passed : r ≡ ok tt → Tested ws
+  term_passed e = followed (term_of most_words most_nesting ws) (ok tt) (sym told ∙ e) λ t i j.
       let w = (term_of_right most_words most_nesting ws t).0 i in
       record { term = t; read = i; is = record { plain = w.plain; words = w.words }; short = w.not_more }
 

@@ -1,7 +1,8 @@
 -- Terms in a row, taken word by word.
 use Prim.Native.Nat.{ℕ, ◌+◌, ◌-◌, ◌≤◌, ◌<◌}
 use native.Mathlib.Omega.{arith}
-use mathlib.Core.Path.{◌≡◌, refl, ap, ◌∙◌}
+use mathlib.Core.Path.{◌≡◌, refl, sym, ap, subst, ◌∙◌}
+use Rattle.std.specs.Prelude.{Some, IsSome}
 use mathlib.Core.List.{List, [], ◌∷◌, ◌++◌, append_assoc, append-nil}
 use lib.ListN.{length, drop, get_or}
 use Rattle.logic.specs.Term.{Term, atom, var, sign, node, encode, size}
@@ -57,11 +58,11 @@ row_next {ws} {at} {rest} (node o a b) ts h = record {
 
 -- ---- a count of the terms still to be read
 
-behind_length : (t : Term) (ts : List Term) → length (next_terms t ts) ≡ length ts + shape_children (head t)
-behind_length (atom a) ts = omega arith
-behind_length (var n) ts = omega arith
-behind_length (sign n q) ts = omega arith
-behind_length (node o a b) ts = omega arith
+behind_length : (t : Term) (ts : List Term) (n : ℕ) → shape_children (head t) ≡ Some n → length (next_terms t ts) ≡ length ts + n
+behind_length (atom a) ts n e = let i : n ≡ 0 = cc in omega arith
+behind_length (var m) ts n e = let i : n ≡ 0 = cc in omega arith
+behind_length (sign m q) ts n e = let i : n ≡ 1 = cc in omega arith
+behind_length (node o a b) ts n e = let i : n ≡ 2 = cc in omega arith
 
 behind_size : (t : Term) (ts : List Term) → size t + sizes ts ≡ 1 + sizes (next_terms t ts)
 unfolding size
@@ -95,19 +96,36 @@ left_none {ws} {at} {count} {end} l z = go l.terms l.number l.ends
     go [] n e = omega arith
     go (t ∷ ts) n e = absurd (omega arith)
 
-pub left_next : {ws : List ℕ} {at count end : ℕ} (n : ℕ) → 0 < count → n ≡ shape_children (word_shape (get_or ws at 0)) → TermsLeft ws at count end
+-- the word there is one of a term
+head_children : (t : Term) → IsSome (shape_children (head t))
+head_children (atom a) = refl
+head_children (var n) = refl
+head_children (sign n q) = refl
+head_children (node o a b) = refl
+
+-- as it stands in the list
+children_head : {ws : List ℕ} {at : ℕ} {t : Term} → At ws at t → shape_children (word_shape (get_or ws at 0)) ≡ shape_children (head t)
+children_head {t} h = ap (λ (w : ℕ). shape_children (word_shape w)) (at_head h) ∙ ap shape_children (shape_first t h.plain)
+
+pub left_children : {ws : List ℕ} {at count end : ℕ} → 0 < count → TermsLeft ws at count end → IsSome (shape_children (word_shape (get_or ws at 0)))
+left_children {ws} {at} {count} p l = go l.terms l.row l.number
+  where
+    go : (ts : List Term) → TermRow ws at ts l.rest → length ts ≡ count → IsSome (shape_children (word_shape (get_or ws at 0)))
+    go [] r m = absurd (omega arith)
+    go (t ∷ ts) r m = subst IsSome (sym (children_head (row_head r))) (head_children t)
+
+pub left_next : {ws : List ℕ} {at count end : ℕ} (n : ℕ) → 0 < count → shape_children (word_shape (get_or ws at 0)) ≡ Some n → TermsLeft ws at count end
     → TermsLeft ws (at + 1) (count - 1 + n) end
 left_next {ws} {at} {count} {end} n p e l = go l.terms l.row l.number l.ends
   where
     go : (ts : List Term) → TermRow ws at ts l.rest → length ts ≡ count → at + sizes ts ≡ end → TermsLeft ws (at + 1) (count - 1 + n) end
     go [] r m s = absurd (omega arith)
     go (t ∷ ts) r m s =
-        let c : shape_children (word_shape (get_or ws at 0)) ≡ shape_children (head t) = ap (λ (w : ℕ). shape_children (word_shape w)) (at_head (row_head r))
-        ∙ ap shape_children (shape_first t r.plain.0) in
+        let c : shape_children (head t) ≡ Some n = sym (children_head (row_head r)) ∙ e in
         record {
           terms = next_terms t ts;
           rest = l.rest;
           row = row_next t ts r;
-          number = omega (arith, behind_length t ts);
+          number = omega (arith, behind_length t ts n c);
           ends = omega (arith, behind_size t ts);
         }

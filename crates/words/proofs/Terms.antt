@@ -6,7 +6,7 @@ use mathlib.Core.List.{List}
 use lib.Dec.{leb}
 use lib.ListN.{length}
 use borrow.Author.Tests.{le-leb, lt-leb}
-use Rattle.logic.specs.Refusals.{term_length, malformed, nesting}
+use Rattle.logic.specs.Refusals.{term_length, nesting}
 use Rattle.logic.specs.Result.{ok, refused, ◌>>=◌, ◌>>◌, nowhere}
 use Rattle.logic.specs.Term.{Term}
 use Rattle.logic.specs.Reading.{read_whole, too_deep}
@@ -16,13 +16,10 @@ use Rattle.logic.proofs.Stopped.{fail}
 use Rattle.words.specs.Place.{Is}
 use Rattle.words.specs.Parsing.{whole_end}
 use Rattle.words.specs.Nesting.{nested_to}
-use Rattle.words.proofs.Parses.{whole_term, whole_malformed}
-use Rattle.words.proofs.Nestings.{within_is, past_is}
+use Rattle.words.proofs.Parses.{whole_term}
+use Rattle.words.proofs.Nestings.{within_is, past_whole}
 
 module _ (most deep : ℕ) (ws : List ℕ) where
-  pub empty_term : length ws < 1 → term_of most deep ws ≡ refused term_length 0
-  empty_term h = fail term_length 0 _ (ap (λ (x : Bool). x && leb (length ws) most) (lt-leb 1 (length ws) h))
-
   pub long_term : most < length ws → term_of most deep ws ≡ refused term_length 0
   long_term h = fail term_length 0 _ (ap (λ (x : Bool). leb 1 (length ws) && x) (lt-leb (length ws) most h) ∙ and-false (leb 1 (length ws)))
 
@@ -30,16 +27,12 @@ module _ (most deep : ℕ) (ws : List ℕ) where
     in_range : (leb 1 (length ws) && leb (length ws) most) ≡ true
     in_range = true_both (le-leb 1 (length ws) some_word) (le-leb (length ws) most not_more)
 
-    pub malformed_term : (place : ℕ) → whole_end (read_whole ws) ≡ refused malformed place → term_of most deep ws ≡ refused malformed place
-    malformed_term place e =
-        pass term_length 0 in_range (ap (λ x. x >>= λ t. nowhere nesting (too_deep deep 0 t) >> ok t) (whole_malformed ws place e))
-
     module _ (t : Term) (is : read_whole ws ≡ ok t) where
       read_term : term_of most deep ws ≡ (nowhere nesting (too_deep deep 0 t) >> ok t)
       read_term = pass term_length 0 in_range (ap (λ x. x >>= λ t. nowhere nesting (too_deep deep 0 t) >> ok t) is)
 
-      pub deep_term : (place : ℕ) → nested_to deep 0 t ≡ refused nesting place → term_of most deep ws ≡ refused nesting place
-      deep_term place e = read_term ∙ ap (λ x. nowhere nesting x >> ok t) (past_is deep 0 place t e)
+      pub deep_term : (m p : ℕ) → nested_to deep 0 t ≡ refused m p → term_of most deep ws ≡ refused m p
+      deep_term m p e = read_term ∙ past_whole deep 0 m p t e
 
       pub good_term : (end : ℕ) → nested_to deep 0 t ≡ ok end → term_of most deep ws ≡ ok t
       good_term end e = read_term ∙ ap (λ x. nowhere nesting x >> ok t) (within_is deep 0 end t e).0

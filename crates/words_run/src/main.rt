@@ -1,13 +1,15 @@
 // Reads, shifts and fills terms, at the edges too, and prints a line for each.
 #![tactic(auto)]
 
+ghost use Rattle.std.specs.Prelude.{IfSome};
 ghost use Rattle.io.specs.Counts.{IsPrefixLen};
 
+use logic::refusal::Refusal;
 use logic::word::{APP, CONSTANT_0, KIND_P, LAM, PAYLOADS, PI, PROP, SIGN_0, VARIABLE_0};
-use moves::fill::{Filled, fill_into};
-use moves::shift::shift_into;
-use words::nesting::{Nesting, nested};
-use words::read::{Parse, read_whole};
+use moves::fill::fill_into;
+use moves::shift::{Shift, shift_into};
+use words::nesting::nested;
+use words::read::read_whole;
 
 // P, C0 and V0.
 const P: u32 = PROP;
@@ -19,86 +21,51 @@ const V0: u32 = VARIABLE_0;
 // The most that a shift may be asked.
 const FAR: i32 = PAYLOADS as i32;
 
-// What `nested` answers of words that are one term; past at 0 where they are none.
-fn nested_whole(words: &[u32], left: usize) -> Nesting {
-    let read = read_whole(words);
-    let Parse::End(end) = read else {
-        return Nesting::Past(0);
-    };
+// What `nested` answers of words that are one term, or `read_whole` of others.
+fn nested_whole(words: &[u32], left: usize) -> Result<usize, Refusal> {
+    read_whole(words)?;
     nested(words, 0, left)
 }
 
-// The words that `shift_into` writes into out, for words that are one term; 0 where they are none, or there is no room,
-// or a number is too big. `free` is its count.
-fn shifted(words: &[u32], c: u32, amount: i32, out: &mut [u32], free: &mut usize) -> usize
-    ensures { IsPrefixLen result out.new }
+// What `shift_into` writes into out, for words that are one term; nothing where they are none, or there is no room, or
+// a number is too big.
+fn shifted(words: &[u32], c: u32, amount: i32, out: &mut [u32]) -> Option<Shift>
+    ensures { IfSome result (λ shift. IsPrefixLen shift.words out.new) }
 {
-    *free = 0;
-    let read = read_whole(words);
-    let Parse::End(n) = read else {
-        return 0;
-    };
+    let n = read_whole(words).ok()?;
     let most = PAYLOADS as usize;
-    if out.len() < n {
-        return 0;
+    if out.len() < n || most < n || most - n < c as usize || amount < -FAR || FAR < amount {
+        return None;
     }
-    if most < n {
-        return 0;
-    }
-    if most - n < c as usize {
-        return 0;
-    }
-    if amount < 0 - FAR {
-        return 0;
-    }
-    if FAR < amount {
-        return 0;
-    }
-    let shift = shift_into(words, c, amount, out, 0);
-    *free = shift.free;
-    shift.words
+    Some(shift_into(words, c, amount, out, 0))
 }
 
-// The words that `fill_into` writes into out, for a body and a filler that are one term each; 0 where they are none, or
-// there is no room.
-fn filled(body: &[u32], filler: &[u32], out: &mut [u32]) -> usize
-    ensures { IsPrefixLen result out.new }
+// How many words `fill_into` writes into out, for a body and a filler that are one term each; nothing where they are
+// none, or there is no room.
+fn filled(body: &[u32], filler: &[u32], out: &mut [u32]) -> Option<usize>
+    ensures { IfSome result (λ n. IsPrefixLen n out.new) }
 {
-    let first = read_whole(body);
-    let Parse::End(n) = first else {
-        return 0;
-    };
-    let second = read_whole(filler);
-    let Parse::End(m) = second else {
-        return 0;
-    };
+    let n = read_whole(body).ok()?;
+    let m = read_whole(filler).ok()?;
     let most = PAYLOADS as usize;
-    if most < n {
-        return 0;
+    if most < n || most < m {
+        return None;
     }
-    if most < m {
-        return 0;
-    }
-    let done = fill_into(body, 0, 0, filler, out, 0);
-    let Filled::Done { next, end } = done else {
-        return 0;
-    };
-    end
+    let done = fill_into(body, 0, 0, filler, out, 0)?;
+    Some(done.end)
 }
 
 fn print_words(words: &[u32]) {
-    let mut i = 0;
-    while i < words.len() {
+    for &word in words {
         io::write_all(1, b" ");
-        io::print_hex(1, words[i] as u64, 8);
-        i += 1;
+        io::print_hex(1, u64::from(word), 8);
     }
 }
 
 // What was written: its words, or how many where they are many.
 fn print_result(out: &[u32]) {
     io::write_all(1, b":");
-    if out.len() == 0 {
+    if out.is_empty() {
         io::write_all(1, b" none");
     } else if out.len() < 9 {
         print_words(out);
@@ -110,56 +77,50 @@ fn print_result(out: &[u32]) {
     io::write_all(1, b"\n");
 }
 
-fn read(label: &[u8], words: &[u32]) {
-    io::write_all(1, b"read ");
+// A line with the place where the words end or are refused.
+fn print_place(what: &[u8], label: &[u8], answer: Result<usize, Refusal>, ends: &[u8], bad: &[u8]) {
+    io::write_all(1, what);
     io::write_all(1, label);
-    let answer = read_whole(words);
-    match answer {
-        Parse::End(end) => {
-            io::write_all(1, b": ends at ");
-            io::print_decimal(1, end as u64);
-        }
-        Parse::Refused(place) => {
-            io::write_all(1, b": bad at ");
-            io::print_decimal(1, place as u64);
-        }
-    }
+    let (word, place) = match answer {
+        Ok(end) => (ends, end),
+        Err(refusal) => (bad, refusal.place),
+    };
+    io::write_all(1, word);
+    io::print_decimal(1, place as u64);
     io::write_all(1, b"\n");
 }
 
+fn read(label: &[u8], words: &[u32]) {
+    print_place(
+        b"read ",
+        label,
+        read_whole(words),
+        b": ends at ",
+        b": bad at ",
+    );
+}
+
 fn nest(label: &[u8], words: &[u32], left: usize) {
-    io::write_all(1, b"nest ");
-    io::write_all(1, label);
     let answer = nested_whole(words, left);
-    match answer {
-        Nesting::Within(end) => {
-            io::write_all(1, b": within at ");
-            io::print_decimal(1, end as u64);
-        }
-        Nesting::Past(place) => {
-            io::write_all(1, b": past at ");
-            io::print_decimal(1, place as u64);
-        }
-    }
-    io::write_all(1, b"\n");
+    print_place(b"nest ", label, answer, b": within at ", b": past at ");
 }
 
 fn shift(label: &[u8], words: &[u32], c: u32, amount: i32) {
     io::write_all(1, b"shift ");
     io::write_all(1, label);
     let mut out = [0u32; 256];
-    let mut free = 0;
-    let n = shifted(words, c, amount, &mut out, &mut free);
+    let none = Shift { words: 0, free: 0 };
+    let shift = shifted(words, c, amount, &mut out).unwrap_or(none);
     io::write_all(1, b", free ");
-    io::print_decimal(1, free as u64);
-    print_result(&out[..n]);
+    io::print_decimal(1, shift.free as u64);
+    print_result(&out[..shift.words]);
 }
 
 fn fill(label: &[u8], body: &[u32], filler: &[u32]) {
     io::write_all(1, b"fill ");
     io::write_all(1, label);
     let mut out = [0u32; 256];
-    let n = filled(body, filler, &mut out);
+    let n = filled(body, filler, &mut out).unwrap_or(0);
     print_result(&out[..n]);
 }
 
@@ -188,7 +149,7 @@ fn shifts() {
     shift(b"Lam V0 App V0 V1 by 0", &body, 0, 0);
     shift(b"Lam V0 App V0 V1 by 0 under 1", &body, 1, 0);
     let free = [PI, V0 + 3, V0 + 4];
-    shift(b"Pi V3 V4 down 3", &free, 0, 0 - 3);
+    shift(b"Pi V3 V4 down 3", &free, 0, -3);
     shift(b"Pi V3 V4 up 1 under 4", &free, 4, 1);
     let last = [V0 + 16777215];
     shift(b"V16777215 by 0", &last, 0, 0);

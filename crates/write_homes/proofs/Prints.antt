@@ -1,26 +1,28 @@
--- The outcomes of the two files, printed.
+-- The outcomes of the two files.
 use Prim.Native.Nat.{ℕ, ◌+◌, ◌*◌, ◌≤◌, ◌<◌}
 use native.Mathlib.Omega.{arith}
-use mathlib.Core.Path.{◌≡◌, refl, sym, ap, ap₂, subst, ◌∙◌}
+use mathlib.Core.Path.{◌≡◌, refl, sym, ap, ◌∙◌}
 use mathlib.Core.Bool.{Bool, true, false}
-use mathlib.Core.List.{List, ◌++◌}
+use mathlib.Core.List.{List}
 use lib.ListN.{length, take, drop, length-append}
+use Rattle.std.specs.Prelude.{Option, Some, None, Ok, Err}
+use Rattle.std.specs.Prelude.{Result as Answer}
+use Rattle.std.specs.Result.{result_ok}
 use Rattle.logic.specs.Refusals.{out_of_form}
-use Rattle.logic.specs.Result.{Result, ok, refused, known, require, number_of, ◌>>=◌, ◌>>◌}
-use Rattle.logic.proofs.Results.{ok_inj, bound}
-use Rattle.logic.proofs.Stopped.{not_refused, stopped}
+use Rattle.logic.specs.Answer.{reason_number, found}
+use Rattle.logic.specs.declared.refusal.Refusal.{Refusal}
+use Rattle.logic.specs.Result.{Result, ok, refused, require, ◌>>=◌, ◌>>◌}
+use Rattle.logic.proofs.Results.{ok_inj}
+use Rattle.words.specs.Place.{written_at, after_write}
 use Rattle.words.proofs.Lists.{written_front}
 use Rattle.decimal.specs.Decimal.{Put, comma, feed}
-use Rattle.decimal.proofs.Puts.{put_then, put_is}
-use Rattle.number_file.specs.declared.Numbers.{Numbers}
-use Rattle.number_file.specs.declared.Numbers.TheVariants.{Whole, Broken}
-use Rattle.number_file.specs.NumberFile.{file, fields, numbers_answer, ReadAs}
+use Rattle.decimal.proofs.Puts.{put_then}
+use Rattle.number_file.specs.NumberFile.{file, fields, ReadAs}
 use Rattle.number_file.proofs.Grammar.{file_length}
-use Rattle.words.specs.Place.{after_write}
-use Rattle.homes.specs.Homes.{most_homes, most_rows, formed, joined, write_call, Wrote}
+use Rattle.homes.specs.Homes.{most_homes, formed, joined, write_call, Wrote}
 use Rattle.homes.proofs.Joins.{formed_facts}
 use Rattle.homes.proofs.Outputs.{joined_length}
-use Rattle.write_homes.specs.Printed.{home_line, home_code_line, most_list, most_table, given, written_homes, refusal, shown, printed}
+use Rattle.write_homes.specs.Printed.{home_line, home_code_line, most_list, most_table, written_homes, refusal, Stepped, shown}
 
 -- ---- what was read
 
@@ -28,82 +30,85 @@ abbrev pub Refuses : {X : Type 0} → Result X → Type 0
 Refuses (ok x) = ⊥
 Refuses (refused m p) = Unit {0}
 
-read_broken : (o : Result (List ℕ)) {old new : List ℕ} {r : Numbers} → ReadAs o old new r → r ≡ Broken → Refuses o
-read_broken o x e = stopped o (λ ns. ok (length ns)) (sym x.answer ∙ ap numbers_answer e) (λ q. subst Refuses (sym q) tt) λ ns a b. absurd (not_refused b)
-
-pub record Found (o : Result (List ℕ)) (n : ℕ) (new : List ℕ) : Type 0 where
-  pub is : o ≡ ok (take n new)
-  pub count : n ≡ length (take n new)
-  pub within : n ≤ length new
-
-pub read_found : (o : Result (List ℕ)) (old : List ℕ) {new : List ℕ} {r : Numbers} {n : ℕ} → ReadAs o old new r → r ≡ Whole n → Found o n new
-read_found o old {new} {r} {n} x e = bound o (λ ns. ok (length ns)) (sym x.answer ∙ ap numbers_answer e) λ ns a b.
-    let c : n ≡ length ns = sym (ok_inj b) in
-    let w = x.words ns a in
-    let t : take n new ≡ ns = written_front old new ns n w c in
-    record { is = a ∙ ap ok (sym t); count = c ∙ ap length (sym t); within = omega (arith, c, ap length w, length-append ns (drop (0 + length ns) old)) }
-
--- ---- outcomes, shown
-
 pub shown_refuses : (o : Result (List ℕ)) → Refuses o → refusal ≡ shown o
 unfolding shown
 shown_refuses (ok ws) r = absurd r
 shown_refuses (refused m p) r = refl
 
-numbered : (o : Result (List ℕ)) (n : ℕ) → n ≡ number_of o → (n ≡ 0 → ⊥) → Refuses o
-numbered (ok ws) n e z = absurd (z e)
-numbered (refused m p) n e z = tt
+pub none_stepped : (o : Result (List ℕ)) (old new : List ℕ) → Refuses o → Stepped o old new None
+none_stepped (ok ws) old new r = absurd r
+none_stepped (refused m p) old new r = record { count = refl; words = λ ws e. absurd (cc) }
 
-module _ (hs t : List ℕ) (len : ℕ) (size : 2 * most_homes ≡ len) where
-  abbrev step : Result (List ℕ)
-  step = write_call hs t (2 * most_homes)
+read_broken : (o : Result (List ℕ)) {old new : List ℕ} {r : Option ℕ} → ReadAs o old new r → r ≡ None → Refuses o
+read_broken (ok ns) x e = let a : ok (length ns) ≡ refused out_of_form 0 = sym x.answer ∙ ap (found out_of_form 0) e in absurd (cc)
+read_broken (refused m p) x e = tt
 
-  pub step_refused : (old new : List ℕ) (n : ℕ) → Wrote (write_call hs t len) old new n → (n ≡ 0 → ⊥) → refusal ≡ shown step
-  step_refused old new n w z = shown_refuses step (subst (λ (k : ℕ). Refuses (write_call hs t k)) (sym size) (numbered (write_call hs t len) n w.number z))
+-- the n numbers or words at the front
+pub record Front (o : Result (List ℕ)) (n : ℕ) (new : List ℕ) : Type 0 where
+  pub is : o ≡ ok (take n new)
+  pub count : n ≡ length (take n new)
+  pub within : n ≤ length new
 
-  -- the words of a step that is not refused
-  pub record Stepped (new : List ℕ) : Type 0 where
-    pub is : step ≡ ok (joined hs t)
-    pub front : take (2 * length hs) new ≡ joined hs t
-    pub fits : 2 * length hs ≤ 2 * most_homes
+front : (old new ns : List ℕ) (n : ℕ) → new ≡ written_at old 0 ns → n ≡ length ns → Front (ok ns) n new
+front old new ns n w c =
+    let t : take n new ≡ ns = written_front old new ns n w c in
+    record { is = ap ok (sym t); count = c ∙ ap length (sym t); within = omega (arith, ap length w, length-append ns (drop (0 + length ns) old)) }
 
-  pub step_done : (old new : List ℕ) (n : ℕ) → Wrote (write_call hs t len) old new n → n ≡ 0 → Stepped new
-  unfolding write_call
-  step_done old new n w z = go (formed hs t len) refl w.number w.output
+pub read_front : (o : Result (List ℕ)) (old : List ℕ) {new : List ℕ} {r : Option ℕ} {n : ℕ} → ReadAs o old new r → r ≡ Some n → Front o n new
+read_front (ok ns) old {new} {r} {n} x e = front old new ns n (x.words ns refl) (ok_inj (sym (ap (found out_of_form 0) e) ∙ x.answer))
+read_front (refused m p) old {new} {r} {n} x e = let a : ok n ≡ refused m p = sym (ap (found out_of_form 0) e) ∙ x.answer in absurd (cc)
+
+-- ---- what is printed
+
+pub stepped_none : (o : Result (List ℕ)) {old new : List ℕ} {r : Option ℕ} → Stepped o old new r → r ≡ None → refusal ≡ shown o
+stepped_none (ok ws) s e = absurd (cc (s.count, e))
+stepped_none (refused m p) s e = shown_refuses (refused m p) tt
+
+pub stepped_front : (o : Result (List ℕ)) (old : List ℕ) {new : List ℕ} {r : Option ℕ} {n : ℕ} → Stepped o old new r → r ≡ Some n → Front o n new
+stepped_front (ok ws) old {new} {r} {n} s e = let q : Some n ≡ Some (length ws) = sym e ∙ s.count in front old new ws n (s.words ws refl) (cc)
+stepped_front (refused m p) old {new} {r} {n} s e = let q : Some n ≡ None = sym e ∙ s.count in absurd (cc)
+
+pub front_shown : (o : Result (List ℕ)) (n : ℕ) (words : List ℕ) {old mid out : List ℕ} {to r : ℕ} → Front o n words → Put old 0 home_code_line mid to →
+    Put mid to (fields comma feed (take n words)) out r → Put old 0 (shown o) out r
+unfolding shown
+front_shown o n words f p q = rw f.is (put_then _ _ _ _ _ _ _ _ p q (omega arith))
+
+-- ---- the writing step
+
+wrote_none : (o : Result (List ℕ)) {old new : List ℕ} (r : Answer (Unit {0}) Refusal) → Wrote o old new r → result_ok r ≡ None → Refuses o
+wrote_none (ok ws) (Ok u) w e = absurd (cc)
+wrote_none (ok ws) (Err x) w e = let a : refused (reason_number x.reason) x.place ≡ ok tt = w.answered in absurd (cc)
+wrote_none (refused m p) r w e = tt
+
+module _ (hs t : List ℕ) (room : ℕ) where
+  by_form : Bool → Result (List ℕ)
+  by_form b = require b out_of_form 0 >> ok (joined hs t)
+
+  wrote_some : {old new : List ℕ} {u : Unit {0}} (r : Answer (Unit {0}) Refusal) → Wrote (write_call hs t room) old new r → result_ok r ≡ Some u →
+      write_call hs t room ≡ ok (joined hs t)
+  unfolding write_call by_form
+  wrote_some (Err x) w e = absurd (cc)
+  wrote_some (Ok u) w e = go (formed hs t room) w.answered
     where
-      go : (b : Bool) → formed hs t len ≡ b → n ≡ number_of (require b out_of_form 0 >> ok (joined hs t)) → new ≡
-          after_write (require b out_of_form 0 >> ok (joined hs t)) old → Stepped new
-      go true e x y =
-          let f = formed_facts hs t len e in
-          record {
-            is = ap (λ (k : ℕ). require (formed hs t k) out_of_form 0 >> ok (joined hs t)) size ∙ ap
-                (λ (b : Bool). require b out_of_form 0 >> ok (joined hs t)) e;
-            front = written_front old new (joined hs t) (2 * length hs) y (sym (joined_length hs t));
-            fits = omega (arith, f.fits, size);
-          }
-      go false e x y = absurd (omega arith)
-
-  pub step_shown : (old mid out words : List ℕ) (to r : ℕ) → Stepped words → Put old 0 home_code_line mid to →
-      Put mid to (fields comma feed (take (2 * length hs) words)) out r → Put old 0 (shown step) out r
-  unfolding shown
-  step_shown old mid out words to r s p q =
-      put_is old out (home_code_line ++ fields comma feed (take (2 * length hs) words)) (shown step) 0 r
-      (ap (λ (ws : List ℕ). home_code_line ++ fields comma feed ws) s.front ∙ ap shown (sym s.is))
-      (put_then old mid out home_code_line (fields comma feed (take (2 * length hs) words)) 0 to r p q (omega arith))
+      go : (b : Bool) → ok (tt {0}) ≡ (by_form b >> ok (tt {0})) → by_form b ≡ ok (joined hs t)
+      go true q = refl
+      go false q = absurd (cc)
 
 -- ---- the two files
 
-abbrev pub both : Result (List ℕ) → Result (List ℕ) → Result (List ℕ)
+both : Result (List ℕ) → Result (List ℕ) → Result (List ℕ)
 both o q = o >>= λ hs. (q >>= λ t. write_call hs t (2 * most_homes))
 
-first_refuses : (o q : Result (List ℕ)) → Refuses o → Refuses (both o q)
-first_refuses (ok hs) q r = absurd r
-first_refuses (refused m p) q r = tt
-
 second_refuses : (o q : Result (List ℕ)) → Refuses q → Refuses (both o q)
+unfolding both
 second_refuses (ok hs) (ok t) r = absurd r
 second_refuses (ok hs) (refused m p) r = tt
 second_refuses (refused m p) q r = tt
+
+first_refuses : (o q : Result (List ℕ)) → Refuses o → Refuses (both o q)
+unfolding both
+first_refuses (ok hs) q r = absurd r
+first_refuses (refused m p) q r = tt
 
 pub not_formed : (hs t : List ℕ) → (formed hs t (2 * most_homes) ≡ true → ⊥) → Refuses (write_call hs t (2 * most_homes))
 unfolding write_call
@@ -113,62 +118,55 @@ not_formed hs t n = go (formed hs t (2 * most_homes)) n
     go true n = absurd (n refl)
     go false n = tt
 
--- too many homes, or too many rows
-many_refuse : (o q : Result (List ℕ)) → ((hs : List ℕ) → o ≡ ok hs → most_homes < length hs) → Refuses (both o q)
-many_refuse (ok hs) (ok t) f = not_formed hs t (λ e. omega (arith, f hs refl, (formed_facts hs t (2 * most_homes) e).homes))
-many_refuse (ok hs) (refused m p) f = tt
-many_refuse (refused m p) q f = tt
+-- both files give a list and a table out of form, or one is refused
+both_refuse : (o q : Result (List ℕ)) → ((hs t : List ℕ) → o ≡ ok hs → q ≡ ok t → formed hs t (2 * most_homes) ≡ true → ⊥) → Refuses (both o q)
+unfolding both
+both_refuse (ok hs) (ok t) n = not_formed hs t (n hs t refl refl)
+both_refuse (ok hs) (refused m p) n = tt
+both_refuse (refused m p) q n = tt
 
-wide_refuse : (o q : Result (List ℕ)) → ((t : List ℕ) → q ≡ ok t → 2 * most_rows < length t) → Refuses (both o q)
-wide_refuse (ok hs) (ok t) f = not_formed hs t (λ e. omega (arith, f t refl, (formed_facts hs t (2 * most_homes) e).rows_most))
-wide_refuse (ok hs) (refused m p) f = tt
-wide_refuse (refused m p) q f = tt
+pub no_list : (f g : Option (List ℕ)) → f ≡ None → Refuses (written_homes f g)
+unfolding written_homes
+no_list f g e = rw e tt
 
-module _ (f g : Bool) (bs cs : List ℕ) where
-  abbrev prints : List ℕ
-  prints = printed (given f bs) (given g cs)
+pub no_table : (f g : Option (List ℕ)) → g ≡ None → Refuses (written_homes f g)
+unfolding written_homes both
+no_table f g e = rw e (second_refuses (found out_of_form 0 f >>= file home_line feed) (refused out_of_form 0) tt)
 
-  abbrev list_of : Bool → Result (List ℕ)
-  list_of b = known out_of_form 0 (given b bs) >>= file home_line feed
+module _ {f g : Option (List ℕ)} (bs cs : List ℕ) (a : f ≡ Some bs) (b : g ≡ Some cs) where
+  there : written_homes f g ≡ both (file home_line feed bs) (file home_code_line comma cs)
+  unfolding written_homes both
+  there = rw (a, b) refl
 
-  abbrev table_of : Bool → Result (List ℕ)
-  table_of b = known out_of_form 0 (given b cs) >>= file home_code_line comma
+  pub both_refused : ((hs t : List ℕ) → file home_line feed bs ≡ ok hs → file home_code_line comma cs ≡ ok t → formed hs t (2 * most_homes) ≡ true → ⊥) →
+      Refuses (written_homes f g)
+  both_refused n = rw there (both_refuse (file home_line feed bs) (file home_code_line comma cs) n)
 
-  from_both : Refuses (both (list_of f) (table_of g)) → refusal ≡ prints
-  unfolding written_homes
-  from_both r = shown_refuses (both (list_of f) (table_of g)) r
+  pub long_list : most_list < length bs → Refuses (written_homes f g)
+  long_list h = both_refused (λ hs t x y e. omega (arith, file_length home_line feed bs hs x, (formed_facts hs t (2 * most_homes) e).homes))
 
-  pub no_list : f ≡ false → refusal ≡ prints
-  no_list e = from_both (first_refuses (list_of f) (table_of g) (subst (λ (b : Bool). Refuses (list_of b)) (sym e) tt))
+  pub long_table : most_table < length cs → Refuses (written_homes f g)
+  long_table h = both_refused (λ hs t x y e. omega (arith, file_length home_code_line comma cs t y, (formed_facts hs t (2 * most_homes) e).rows_most))
 
-  pub no_table : g ≡ false → refusal ≡ prints
-  no_table e = from_both (second_refuses (list_of f) (table_of g) (subst (λ (b : Bool). Refuses (table_of b)) (sym e) tt))
+  pub broken_list : {old new : List ℕ} {r : Option ℕ} → ReadAs (file home_line feed bs) old new r → r ≡ None → Refuses (written_homes f g)
+  broken_list x e = rw there (first_refuses (file home_line feed bs) (file home_code_line comma cs) (read_broken (file home_line feed bs) x e))
 
-  module _ (a : f ≡ true) (b : g ≡ true) where
-    abbrev read_both : Result (List ℕ)
-    read_both = both (file home_line feed bs) (file home_code_line comma cs)
+  pub broken_table : {old new : List ℕ} {r : Option ℕ} → ReadAs (file home_code_line comma cs) old new r → r ≡ None → Refuses (written_homes f g)
+  broken_table x e = rw there (second_refuses (file home_line feed bs) (file home_code_line comma cs) (read_broken (file home_code_line comma cs) x e))
 
-    pub there : prints ≡ shown read_both
-    unfolding written_homes
-    there = ap₂ (λ (x y : Bool). shown (both (list_of x) (table_of y))) a b
+  module _ (hs t : List ℕ) (x : file home_line feed bs ≡ ok hs) (y : file home_code_line comma cs ≡ ok t) where
+    pub written_is : written_homes f g ≡ write_call hs t (2 * most_homes)
+    unfolding both
+    written_is = there ∙ rw (x, y) refl
 
-    from_read : Refuses read_both → refusal ≡ prints
-    from_read r = shown_refuses read_both r ∙ sym there
+    module _ {old new : List ℕ} {r : Answer (Unit {0}) Refusal} (size : 2 * most_homes ≡ length old) (w : Wrote (write_call hs t (length old)) old new r) where
+      pub step_refused : result_ok r ≡ None → Refuses (written_homes f g)
+      step_refused e = rw (written_is, size) (wrote_none (write_call hs t (length old)) r w e)
 
-    pub long_list : most_list < length bs → refusal ≡ prints
-    long_list h = from_read (many_refuse (file home_line feed bs) (file home_code_line comma cs) (λ hs e. omega (arith, file_length home_line feed bs hs e)))
-
-    pub long_table : most_table < length cs → refusal ≡ prints
-    long_table h = from_read (wide_refuse (file home_line feed bs) (file home_code_line comma cs)
-        (λ t e. omega (arith, file_length home_code_line comma cs t e)))
-
-    pub broken_list : {old new : List ℕ} {r : Numbers} → ReadAs (file home_line feed bs) old new r → r ≡ Broken → refusal ≡ prints
-    broken_list x e = from_read (first_refuses (file home_line feed bs) (file home_code_line comma cs) (read_broken (file home_line feed bs) x e))
-
-    pub broken_table : {old new : List ℕ} {r : Numbers} → ReadAs (file home_code_line comma cs) old new r → r ≡ Broken → refusal ≡ prints
-    broken_table x e = from_read (second_refuses (file home_line feed bs) (file home_code_line comma cs) (read_broken (file home_code_line comma cs) x e))
-
-    pub read_shown : (hs t old out : List ℕ) (r : ℕ) → file home_line feed bs ≡ ok hs → file home_code_line comma cs ≡ ok t →
-        Put old 0 (shown (write_call hs t (2 * most_homes))) out r → Put old 0 prints out r
-    read_shown hs t old out r x y p = put_is old out (shown (write_call hs t (2 * most_homes))) prints 0 r
-        (sym (there ∙ ap₂ (λ (o q : Result (List ℕ)). shown (both o q)) x y)) p
+      pub step_done : {u : Unit {0}} {n : ℕ} → result_ok r ≡ Some u → n ≡ length hs → Stepped (written_homes f g) old new (Some (2 * n))
+      step_done e q =
+          let i = wrote_some hs t (length old) r w e in
+          rw (written_is, size, i) (record {
+            count = ap Some (ap (λ k. 2 * k) q ∙ sym (joined_length hs t));
+            words = λ ws p. w.output ∙ ap (λ o. after_write o old) (i ∙ p);
+          })

@@ -1,13 +1,13 @@
 -- Document 02's slip 3 on the program, in quotation marks, by literals and examples that compute.
 use Rattle.std.specs.Prelude.{◌≡◌, List, ℕ}
-use Rattle.std.proofs.Math.Option.{some, none}
+use Rattle.std.specs.Prelude.{Some, None}
 use Prim.Native.String.{String}
 use Rattle.decimal.specs.Decimal.{ascii}
 use Rattle.write_homes.specs.Printed.{most_list, most_table, output_room, printed}
 
 -- what two texts print
 abbrev pub print_of : (homes surveys : String) → List ℕ
-print_of homes surveys = printed (some (ascii homes)) (some (ascii surveys))
+print_of homes surveys = printed (Some (ascii homes)) (Some (ascii surveys))
 
 -- only the refusal
 abbrev pub Refused21 : List ℕ → Type 0
@@ -53,7 +53,7 @@ pub record PrintedGuards : Type 0 where
   pub equal_rows : Refused21 (print_of "home\n3\n" "home,code\n3,0\n3,1\n")
   pub never_a_code : Refused21 (print_of "home\n3\n" "home,code\n3,4294967295\n")
   -- "or no file"
-  pub no_homes : Refused21 (printed none (some (ascii "home,code\n")))
-  pub no_surveys : Refused21 (printed (some (ascii "home\n")) none)
+  pub no_homes : Refused21 (printed None (Some (ascii "home,code\n")))
+  pub no_surveys : Refused21 (printed (Some (ascii "home\n")) None)
   pub empty_file : Refused21 (print_of "" "home,code\n")
   pub empty_surveys : Refused21 (print_of "home\n" "")

@@ -1,6 +1,6 @@
 -- What the program should print, without its reader.
 use Rattle.std.specs.Prelude.{◌+◌, ◌*◌, ◌≡◌, List, ◌++◌, ℕ, take}
-use Rattle.std.proofs.Math.Option.{Option, some, none}
+use Rattle.std.specs.Prelude.{Option, Some, None}
 use Rattle.decimal.specs.Decimal.{comma, feed}
 use Rattle.number_file.specs.NumberFile.{fields, IsFile}
 use Rattle.homes.specs.Homes.{most_homes, joined}
@@ -15,10 +15,10 @@ pub record Files (bs cs hs t : List ℕ) : Type 0 where
 
 pub record PrintsRight : Type 0 where
   -- such files print each home with its code, and all others the refusal
-  pub prints : (bs cs hs t : List ℕ) → Files bs cs hs t → printed (some bs) (some cs) ≡ home_code_line ++ fields comma feed (joined hs t)
-  pub refuses : (bs cs : List ℕ) → ((hs t : List ℕ) → Files bs cs hs t → ⊥) → printed (some bs) (some cs) ≡ refusal
+  pub prints : (bs cs hs t : List ℕ) → Files bs cs hs t → printed (Some bs) (Some cs) ≡ home_code_line ++ fields comma feed (joined hs t)
+  pub refuses : (bs cs : List ℕ) → ((hs t : List ℕ) → Files bs cs hs t → ⊥) → printed (Some bs) (Some cs) ≡ refusal
   -- "no file"
-  pub no_homes : (g : Option (List ℕ)) → printed none g ≡ refusal
-  pub no_surveys : (f : Option (List ℕ)) → printed f none ≡ refusal
+  pub no_homes : (g : Option (List ℕ)) → printed None g ≡ refusal
+  pub no_surveys : (f : Option (List ℕ)) → printed f None ≡ refusal
   -- files of any length: the program reads one byte more than the longest file in form has, and those bytes decide
-  pub cut : (bs cs : List ℕ) → printed (some (take (most_list + 1) bs)) (some (take (most_table + 1) cs)) ≡ printed (some bs) (some cs)
+  pub cut : (bs cs : List ℕ) → printed (Some (take (most_list + 1) bs)) (Some (take (most_table + 1) cs)) ≡ printed (Some bs) (Some cs)

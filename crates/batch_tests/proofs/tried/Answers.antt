@@ -1,90 +1,74 @@
 -- The shared tests once, the statements held in buckets, and behind them the tests of the items.
 use mathlib.Core.Path.{refl, sym, ap, subst, ◌∙◌}
-use mathlib.Core.List.{[]}
+use mathlib.Core.List.{List, []}
+use Prim.Native.Nat.{ℕ}
 use native.Mathlib.Omega.{arith}
+use lib.ListN.{length}
 use lib.Seq.{length-take-le}
 use Rattle.logic.specs.Result.{Result, ok}
-use Rattle.register.specs.Calls.{View}
+use Rattle.logic.specs.Answer.{answer}
+use Rattle.register.specs.Records.{register_content}
+use Rattle.register.specs.Calls.{View, view, outline_of}
 use Rattle.register.specs.Batch.{Batched, items}
 use Rattle.register.specs.BatchTests.{items_own, at_start}
-use Rattle.search.specs.declared.statement.Source.{Source}
-use Rattle.search.proofs.Search.{reads_register}
-use Rattle.buckets.specs.Buckets.{bucket_count, Buckets}
+use Rattle.search.specs.Sources.{IsView}
+use Rattle.search.proofs.Search.{reads_view}
+use Rattle.buckets.specs.Buckets.{bucket_count}
 use Rattle.buckets.proofs.Buckets.{empty_buckets}
-use Rattle.shared_tests.specs.Shared.{lent_of}
+use Rattle.shared_tests.specs.Shared.{lent_by}
 use Rattle.shared_tests.proofs.OwnTests.{not_prepared, passed_so, table_within}
+use Rattle.batch_tests.proofs.TestsInTurn.{batch_handed_on}
 use Rattle.batch_tests.proofs.tried.Goals as goal
 
-pub in_register-source-requires : goal.in_register-source-requires
-in_register-source-requires c =
-    let a = c.args in
-    let lent = lent_of a.sig.now a.n a.ws.now in
-    let own : View → Result Batched = λ v. ok (items_own a.day 0 [] (items a.day a.items.now) v) in
-    let passed = passed_so lent a.register.now c.prepare-ready.new.table c.prepare-ready.result own c.prepare-ready.ensures
-    c.in-Constants.count c.in-Constants.is in
-    passed.lent_so.not_shorter
+-- the tests of the items, behind those that calls share
+abbrev own : ℕ → List ℕ → View → Result Batched
+own day ws s = ok (items_own day 0 [] (items day ws) s)
+
+pub returns-in_err-count : goal.returns-in_err-count
+returns-in_err-count c =
+    batch_handed_on _ _ c.from_residual.ensures
+    ∙ sym (ap at_start (not_prepared _ _ _ _ (own c.args.day c.args.items.now) c.prepare.ensures _ _ (ap answer c.in_err-count.was)))
 
 pub fill-requires : goal.fill-requires
 fill-requires c =
-    let a = c.args in
-    let lent = lent_of a.sig.now a.n a.ws.now in
-    let own : View → Result Batched = λ v. ok (items_own a.day 0 [] (items a.day a.items.now) v) in
-    let passed = passed_so lent a.register.now c.prepare-ready.new.table c.prepare-ready.result own c.prepare-ready.ensures
-    c.in-Constants.count c.in-Constants.is in
-    let source = c.in_register-source in (
-      record { found = passed.content.records; reads = reads_register a.register.now source.ensures passed.reads },
-      ap (λ (x : Source). x.rules) source.ensures,
-      empty_buckets source.result a.register.now bucket_count (omega arith),
+    let passed = passed_so _ _ _ _ (own c.args.day c.args.items.now) c.prepare.ensures _ (ap answer c.in_ok-count.was) in
+    let V = c.view_of-view.ensures in (
+      record { found = passed.content.records; reads = reads_view c.args.register.now V passed.reads },
+      ap (λ x. x.rules) V.span,
+      empty_buckets _ _ bucket_count (omega arith),
     )
 
 pub slice_bounds-table-end : goal.slice_bounds-table-end
 slice_bounds-table-end c =
-    let a = c.args in
-    let lent = lent_of a.sig.now a.n a.ws.now in
-    let own : View → Result Batched = λ v. ok (items_own a.day 0 [] (items a.day a.items.now) v) in
-    let passed = passed_so lent a.register.now c.prepare-ready.new.table c.prepare-ready.result own c.prepare-ready.ensures
-    c.in-Constants.count c.in-Constants.is in
-    table_within lent _ _ passed.Σ passed.counted passed.constants
+    let passed = passed_so _ _ _ _ (own c.args.day c.args.items.now) c.prepare.ensures _ (ap answer c.in_ok-count.was) in
+    table_within (lent_by c.args.signature c.args.ws.now) _ _ _ passed.counted passed.constants
 
 pub slice_bounds-test_items-end : goal.slice_bounds-test_items-end
 slice_bounds-test_items-end c =
-    let a = c.args in
-    let lent = lent_of a.sig.now a.n a.ws.now in
-    let own : View → Result Batched = λ v. ok (items_own a.day 0 [] (items a.day a.items.now) v) in
-    let passed = passed_so lent a.register.now c.prepare-ready.new.table c.prepare-ready.result own c.prepare-ready.ensures
-    c.in-Constants.count c.in-Constants.is in
-    sym (length-take-le _ _ (table_within lent _ _ passed.Σ passed.counted passed.constants))
+    let passed = passed_so _ _ _ _ (own c.args.day c.args.items.now) c.prepare.ensures _ (ap answer c.in_ok-count.was) in
+    sym (length-take-le _ _ (table_within (lent_by c.args.signature c.args.ws.now) _ _ _ passed.counted passed.constants))
 
 pub test_items-requires : goal.test_items-requires
 test_items-requires c =
-    let a = c.args in
-    let lent = lent_of a.sig.now a.n a.ws.now in
-    let own : View → Result Batched = λ v. ok (items_own a.day 0 [] (items a.day a.items.now) v) in
-    let passed = passed_so lent a.register.now c.prepare-ready.new.table c.prepare-ready.result own c.prepare-ready.ensures
-    c.in-Constants.count c.in-Constants.is in
+    let passed = passed_so _ _ _ _ (own c.args.day c.args.items.now) c.prepare.ensures _ (ap answer c.in_ok-count.was) in
+    let V = c.view_of-view.ensures in
     record {
       content = passed.content;
-      reads = passed.reads;
-      bucketed = subst (λ (x : Source). Buckets x a.register.now c.fill.new.buckets) c.in_register-source.ensures c.fill.ensures;
-      not_longer = passed.lent_so.not_longer;
+      reads = ap register_content V.list ∙ passed.reads;
+      view = subst (IsView c.view_of-view.result) (sym V.list) V;
+      bucketed = c.fill.ensures;
+      not_longer = omega (arith, passed.lent_so.not_longer, ap length V.list);
       Σ = passed.Σ;
       constants = passed.constants;
       operations = passed.lent_so.operations;
-      workspace = omega (arith, passed.lent_so.workspace, c.prepare-ready.auto.ws);
+      workspace = omega (arith, passed.lent_so.workspace, c.prepare.auto.ws);
     }
 
-pub returns-in-Refused : goal.returns-in-Refused
-returns-in-Refused c =
-    let a = c.args in
-    let lent = lent_of a.sig.now a.n a.ws.now in
-    let own : View → Result Batched = λ v. ok (items_own a.day 0 [] (items a.day a.items.now) v) in
-    sym (ap at_start (not_prepared lent a.register.now _ c.prepare-ready.result own c.prepare-ready.ensures _ _ c.in-Refused.is))
-
-pub returns-in-Constants : goal.returns-in-Constants
-returns-in-Constants c =
-    let a = c.args in
-    let lent = lent_of a.sig.now a.n a.ws.now in
-    let own : View → Result Batched = λ v. ok (items_own a.day 0 [] (items a.day a.items.now) v) in
-    let passed = passed_so lent a.register.now c.prepare-ready.new.table c.prepare-ready.result own c.prepare-ready.ensures
-    c.in-Constants.count c.in-Constants.is in
-    c.test_items.ensures lent passed.Σ passed.content refl passed.constants passed.reads ∙ sym (ap at_start passed.is)
+pub returns : goal.returns
+returns c =
+    let lent = lent_by c.args.signature c.args.ws.now in
+    let passed = passed_so _ _ _ _ (own c.args.day c.args.items.now) c.prepare.ensures _ (ap answer c.in_ok-count.was) in
+    let V = c.view_of-view.ensures in
+    c.test_items.ensures lent passed.Σ passed.content refl passed.constants (ap register_content V.list ∙ passed.reads)
+    ∙ ap (λ reg. at_start (own c.args.day c.args.items.now (view lent (outline_of reg) passed.content passed.Σ))) V.list
+    ∙ sym (ap at_start passed.is)

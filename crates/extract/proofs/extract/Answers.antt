@@ -1,30 +1,25 @@
 -- Three ways out: the form is broken, the request is refused, or it is granted and the homes are written.
-use mathlib.Core.Path.{sym, ◌∙◌}
-use Rattle.register.specs.Records.{ask_of}
-use Rattle.shared_tests.specs.Shared.{lent_of}
-use Rattle.extract.proofs.Extracts.{extract_not_formed, extract_not_granted, extract_granted}
+use mathlib.Core.Path.{refl, sym, ap, ◌∙◌}
+use Rattle.logic.specs.Answer.{answer}
+use Rattle.logic.proofs.Answers.{refusal, handed_on}
+use Rattle.extract.proofs.Extracts.{broken_form, then_requested, left_by}
 use Rattle.extract.proofs.extract.Goals as goal
 
-pub returns-then-not-fine : goal.returns-then-not-fine
-returns-then-not-fine c =
-    let a = c.args in
-    extract_not_formed (lent_of c.args.sig.now c.args.n c.args.ws.now) a.register.now (ask_of c.args.operation c.args.extract c.args.delivery
-    c.args.day c.args.proof.now) a.homes.now a.surveys.now a.out.now
-    (sym c.well_formed-fine.ensures ∙ c.if-not-fine.true)
-
-pub returns-in_default : goal.returns-in_default
-returns-in_default c =
-    let a = c.args in
-    extract_not_granted (lent_of c.args.sig.now c.args.n c.args.ws.now) a.register.now (ask_of c.args.operation c.args.extract c.args.delivery
-    c.args.day c.args.proof.now) a.homes.now a.surveys.now a.out.now
-    (sym c.well_formed-fine.ensures ∙ c.if-not-fine.false) _ c.request-answer.result c.request-answer.ensures _ _ c.in_default.is
+pub returns-then-not-well_formed : goal.returns-then-not-well_formed
+returns-then-not-well_formed c =
+    left_by _ (broken_form _ _ _ _ _ _ (sym c.well_formed-2.ensures ∙ c.if-not-well_formed.true)) (ap refusal c.at.ensures) refl refl
 
 pub join-requires : goal.join-requires
-join-requires c = (sym c.well_formed-fine.ensures ∙ c.if-not-fine.false)
+join-requires c = sym c.well_formed-2.ensures ∙ c.if-not-well_formed.false
+
+pub returns-in_err-request : goal.returns-in_err-request
+returns-in_err-request c =
+    let e = sym c.request.ensures.answer ∙ ap answer c.in_err-request.was in
+    left_by _ (then_requested _ _ _ _ _ _ (sym c.well_formed-2.ensures ∙ c.if-not-well_formed.false) e) (handed_on _ _ c.from_residual.ensures)
+    (rw e at c.request.ensures.register) refl
 
 pub returns : goal.returns
 returns c =
-    let a = c.args in
-    extract_granted (lent_of c.args.sig.now c.args.n c.args.ws.now) a.register.now (ask_of c.args.operation c.args.extract c.args.delivery c.args.day
-    c.args.proof.now) a.homes.now a.surveys.now a.out.now
-    (sym c.well_formed-fine.ensures ∙ c.if-not-fine.false) _ c.request-answer.result c.request-answer.ensures _ c.in-Passed.is c.join.ensures
+    let e = sym c.request.ensures.answer ∙ ap answer c.in_ok-request.was in
+    left_by _ (then_requested _ _ _ _ _ _ (sym c.well_formed-2.ensures ∙ c.if-not-well_formed.false) e) refl (rw e at c.request.ensures.register)
+    c.join.ensures

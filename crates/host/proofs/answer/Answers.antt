@@ -1,14 +1,7 @@
--- A verdict as one number.
-use mathlib.Core.Path.{sym, ap, ◌∙◌}
-use Rattle.words.specs.Verdict.{verdict_answer}
-use Rattle.host.specs.Answers.{code_of}
+-- What a call answers that gives no value, as one number.
+use mathlib.Core.Path.{ap}
+use Rattle.logic.specs.Answer.{answer as told}
 use Rattle.host.proofs.answer.Goals as goal
 
 pub code-requires : goal.code-requires
-code-requires c = c.requires _ _ (ap verdict_answer c.in-Refused.is)
-
-pub returns-in-Passed : goal.returns-in-Passed
-returns-in-Passed c = sym (ap (λ v. code_of (verdict_answer v)) c.in-Passed.is)
-
-pub returns-in-Refused : goal.returns-in-Refused
-returns-in-Refused c = c.code.ensures ∙ sym (ap (λ v. code_of (verdict_answer v)) c.in-Refused.is)
+code-requires c = c.requires _ _ (ap told c.in-Err.is)

@@ -1,35 +1,27 @@
 -- Read, and its answer as one number, with where the body stands.
-use Rattle.read_call.proofs.ReadAnswers.{one_less}
-use Rattle.host.proofs.Starts.{Present, number_fits, not_read, present, start_fits, read_to}
+use mathlib.Core.Path.{sym, ap, ◌∙◌}
 use native.Mathlib.Omega.{arith}
+use Rattle.register.specs.Calls.{kind_of, body_of}
+use Rattle.read_call.specs.Read.{read_answer}
+use Rattle.read_call.proofs.ReadAnswers.{one_less}
+use Rattle.host.proofs.Starts.{not_read, present, start_fits, read_to}
 use Rattle.host.proofs.aura0_read.Goals as goal
 
-pub code-requires : goal.code-requires
-code-requires c =
-    let a = c.args in
-    (number_fits a.register.now a.«record» _ c.read-body.ensures.number c.if-number-ne0.true, omega arith)
-
-pub returns-then-number-ne0 : goal.returns-then-number-ne0
-returns-then-number-ne0 c =
-    let a = c.args in
-    let r = c.read-body in
-    not_read a.register.now a.«record» _ r.ensures.number _ r.result.now c.code.result c.if-number-ne0.true r.ensures.kind
-    r.ensures.body c.code.ensures
-
 pub place-requires : goal.place-requires
-place-requires c = one_less (let w : Present c.args.register.now c.args.«record» = let a = c.args in
-    present a.register.now a.«record» _ c.read-body.ensures.number c.if-number-ne0.false in w).among
+place-requires c = one_less (present c.args.register.now c.args.«record» (sym c.read.ensures ∙ ap read_answer c.in-Ok.is)).among
 
 pub overflow_add-start : goal.overflow_add-start
 overflow_add-start c =
-    let a = c.args in
-    let h = start_fits a.register.now a.«record» (let a = c.args in present a.register.now a.«record» _ c.read-body.ensures.number
-    c.if-number-ne0.false) c.place.result c.place.ensures in
-    omega (arith, c.well_formed)
+    let P = present c.args.register.now c.args.«record» (sym c.read.ensures ∙ ap read_answer c.in-Ok.is) in
+    omega (arith, c.well_formed, start_fits c.args.register.now c.args.«record» P c.place.result c.place.ensures)
 
-pub returns : goal.returns
-returns c =
-    let a = c.args in
-    let r = c.read-body in
-    read_to a.register.now a.«record» (let a = c.args in present a.register.now a.«record» _ c.read-body.ensures.number c.if-number-ne0.false)
-    c.place.result c.place.ensures _ r.result.now r.ensures.kind r.ensures.body
+pub returns-in-Ok : goal.returns-in-Ok
+unfolding kind_of body_of
+returns-in-Ok c =
+    let e = sym c.read.ensures ∙ ap read_answer c.in-Ok.is in
+    let P = present c.args.register.now c.args.«record» e in
+    read_to c.args.register.now c.args.«record» P c.place.result c.place.ensures _ c.in-Ok.found.body.now
+    (c.from.ensures ∙ sym (ap kind_of e)) (sym (ap body_of e))
+
+pub returns-in-Err : goal.returns-in-Err
+returns-in-Err c = not_read c.args.register.now c.args.«record» (sym c.read.ensures ∙ ap read_answer c.in-Err.is) _ c.code.ensures

@@ -1,25 +1,16 @@
--- The answer of the conversion into names as one number, with how many words it wrote.
+-- The answer of the conversion as one number, with how many words it wrote.
 use lib.ListN.{length}
 use native.Mathlib.Omega.{arith}
 use Rattle.editions.specs.Convert.{to_named}
 use Rattle.editions.specs.declared.Edition.TheVariants.{Counts}
-use Rattle.host.proofs.Codes.{converted_to, unconverted_is, not_converted, convert_fits}
+use Rattle.host.proofs.Codes.{converted_to, mapped_fits, convert_fits}
 use Rattle.host.proofs.aura0_to_named.Goals as goal
 
-pub code-requires : goal.code-requires
-code-requires c =
-    let a = c.args in
-    convert_fits Counts a.term.now (length a.output.now) _ _ (omega (arith, c.well_formed))
-    (unconverted_is (to_named c.args.term.now (length c.args.output.now)) a.output.now _ c.to_named-conversion.result c.to_named-conversion.ensures _
-    _ c.in-Refused.is)
+pub answer_count-requires : goal.answer_count-requires
+answer_count-requires c =
+    mapped_fits length (to_named c.args.term.now (length c.args.output.now)) _ c.to_named.ensures.answer
+    (λ m p. convert_fits Counts c.args.term.now (length c.args.output.now) m p (omega (arith, c.well_formed)))
 
-pub returns-in-Written : goal.returns-in-Written
-returns-in-Written c =
-    converted_to (to_named c.args.term.now (length c.args.output.now)) c.args.output.now _ c.to_named-conversion.result c.to_named-conversion.ensures
-    _ c.in-Written.is
-
-pub returns-in-Refused : goal.returns-in-Refused
-returns-in-Refused c =
-    not_converted (to_named c.args.term.now (length c.args.output.now)) c.args.output.now _ c.to_named-conversion.result
-    c.to_named-conversion.ensures _ _ c.in-Refused.is
-    c.code.result c.code.ensures
+pub returns : goal.returns
+returns c =
+    converted_to (to_named c.args.term.now (length c.args.output.now)) _ _ _ _ _ c.to_named.ensures c.answer_count.ensures.answer c.answer_count.ensures.count

@@ -1,53 +1,34 @@
--- `load` writes the words of the requests one behind another. The invariant, `Loading`: with those of the requests that
--- are left written behind them, the output is that of the whole load. The measure: how many words are left.
-use Rattle.std.proofs.Common.{length, inl, inr, arith}
-use Rattle.words.proofs.Counts.{none_written}
-use Rattle.load.proofs.Draws.{drawn_fits, principal_fits}
-use Rattle.load.proofs.Writes.{out_of_range, load_too_short, loading_starts, room_left, loading_turn, loading_ends}
+-- `load` writes the words of the requests one behind another.
+use Rattle.std.proofs.Common.{length, ap, ◌∙◌, inl, inr, arith}
+use Rattle.logic.proofs.Answers.{refusal}
+use Rattle.load.proofs.Draws.{greater_is}
+use Rattle.load.proofs.Writes.{none_written, out_of_range, load_too_short, loading_starts, loading_turn, loading_ends}
 use Rattle.load.proofs.load.Goals as goal
 
 pub returns-then-count-lt1 : goal.returns-then-count-lt1
 returns-then-count-lt1 c =
-    let a = c.args in
-    none_written a.output.now (out_of_range a.seed a.count (length a.output.now)
+    none_written c.args.output.now _ (out_of_range c.args.seed c.args.count (length c.args.output.now)
     (elim c.then-count-lt1.branch [
       | goal.then-count-lt1-via-then-count-lt1 w ↦ inl w.if-count-lt1.true
       | goal.then-count-lt1-via-else-count-lt1+then-count-gt-MOST_REQUESTS w ↦ inr w.if-count-gt-MOST_REQUESTS.true
-    ]))
+    ])) (ap refusal c.at.ensures)
 
 pub returns-then-output-words : goal.returns-then-output-words
 returns-then-output-words c =
-    let a = c.args in
-    none_written a.output.now (load_too_short a.seed a.count (length a.output.now) (omega (arith, c.if-count-lt1.false))
-    (omega (arith, c.if-count-gt-MOST_REQUESTS.false)) (omega (arith, c.if-output-words.true)))
+    none_written c.args.output.now _ (load_too_short c.args.seed c.args.count (length c.args.output.now) (omega arith) (omega arith) (omega arith))
+    (ap refusal c.at-then-output-words.ensures)
 
-pub loop-place-init : goal.loop-place-init
-loop-place-init c =
-    let a = c.args in
-    loading_starts a.seed a.count a.output.now
+pub loop-i-init : goal.loop-i-init
+loop-i-init c = loading_starts c.args.seed c.args.count c.args.output.now
 
-pub write_request-requires : goal.write_request-requires
-write_request-requires c =
-    let l = c.loop-place in
-    let a = c.args in
-    record {
-      extract_fits = drawn_fits c.next_state-first.result;
-      principal_fits = rw c.principal_from-principal.ensures (principal_fits c.next_state-second.result);
-      room = room_left a.seed a.count a.output.now l.output l.state l.place (omega (arith, c.if-output-words.false)) l.invariant
-          (omega (arith, c.loop-place-test.true));
-    }
-
-pub loop-place-preserved : goal.loop-place-preserved
-loop-place-preserved c =
-    let l = c.loop-place in
-    let a = c.args in
-    loading_turn a.seed a.count a.output.now l.output l.state l.place (omega (arith, c.if-output-words.false)) l.invariant
-    _ _ _ _ _ (omega (arith, c.loop-place-test.true)) c.next_state-first.ensures c.next_state-second.ensures c.next_state-third.ensures
-    c.principal_from-principal.ensures c.write_request.ensures
+pub loop-i-preserved : goal.loop-i-preserved
+loop-i-preserved c =
+    let l = c.loop-i in
+    loading_turn c.args.seed c.args.count c.args.output.now l.output l.state l.i (omega arith) l.invariant
+    _ _ _ _ _ (omega arith) c.next_state-first.ensures c.next_state-second.ensures c.next_state-state.ensures
+    (c.max-principal.ensures ∙ greater_is _) c.write_request.ensures
 
 pub returns : goal.returns
 returns c =
-    let l = c.loop-place in
-    let a = c.args in
-    loading_ends a.seed a.count a.output.now l.output l.state l.place (omega (arith, c.if-output-words.false)) l.invariant
-    (omega (arith, c.loop-place-test.false)) (omega (arith, c.if-count-lt1.false)) (omega (arith, c.if-count-gt-MOST_REQUESTS.false))
+    let l = c.loop-i in
+    loading_ends c.args.seed c.args.count c.args.output.now l.output l.state l.i (omega arith) l.invariant (omega arith) (omega arith) (omega arith)

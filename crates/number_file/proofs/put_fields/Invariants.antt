@@ -1,15 +1,12 @@
--- A loop over the numbers; the invariant: those before i are put, and the fields of the rest come behind them.
-use Prim.Native.Nat.{◌≤◌, ◌-◌, ◌+◌, ◌*◌}
-use mathlib.Core.Path.{◌≡◌}
-use lib.ListN.{length}
-use Rattle.decimal.specs.Decimal.{number_bytes}
-use Rattle.number_file.proofs.Fields.{Putting}
+-- What is put of the rest of the fields completes the fields.
+use Rattle.std.proofs.Common.{◌+◌, ◌*◌, ◌≤◌, length, ℕ, List, drop}
+use Rattle.decimal.specs.Decimal.{feed, comma, number_bytes, Put}
+use Rattle.number_file.specs.NumberFile.{fields}
 use Rattle.number_file.proofs.put_fields.Given as goal
 
-abbrev pub invariant-loop-i : goal.invariant-loop-i
-invariant-loop-i l =
-    (l.i ≤ length l.words) × (l.end ≤ l.to + number_bytes * l.i) × (length l.out ≡ length l.initial.out) ×
-    Putting l.words l.initial.out l.to l.out l.end l.this l.other l.i
-
-abbrev pub decreases-loop-i : goal.decreases-loop-i
-decreases-loop-i l = length l.words - l.i
+abbrev pub invariant-loop-word : goal.invariant-loop-word
+invariant-loop-word l = record {
+  room : l.end + number_bytes * length (drop l.word-index l.words) ≤ length l.out;
+  rest : (new : List ℕ) (r : ℕ) → Put l.out l.end (fields l.this l.other (drop l.word-index l.words)) new r →
+      Put l.initial.out l.to (fields comma feed l.words) new r;
+}

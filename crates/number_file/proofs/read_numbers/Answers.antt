@@ -1,75 +1,62 @@
--- A loop over the bytes; the invariant: the numbers so far stand at the front of the words, and what is left is read
--- from byte i on behind the number so far. Each number took two bytes at least, so there is room for it.
+-- The numbers so far stand at the front of the words, and what is left is read behind the number so far. Each number
+-- took two bytes at least, so there is room for it.
+use Rattle.std.proofs.Common.{◌+◌, ◌*◌, ◌≤◌, sym, ap, ◌∙◌}
 use native.Mathlib.Omega.{arith}
-use mathlib.Core.Path.{refl, ◌∙◌}
 use lib.ListN.{length-set}
-use Rattle.logic.proofs.Stopped.{passed_not}
-use Rattle.number_file.proofs.Reader.{reading_start, no_number, number_ends, wrong_byte, digit_read, number_open, line_open, read_to_end}
+use Rattle.logic.specs.Refusals.{out_of_form}
+use Rattle.logic.specs.Answer.{found}
+use Rattle.number_file.proofs.Reader.{no_number, number_ends, wrong_byte, digit_read, number_open, line_open, read_to_end, is_none}
 use Rattle.number_file.proofs.read_numbers.Goals as goal
+use Rattle.number_file.proofs.read_numbers.Goals.{then-byte-this+in_ok-words, else-byte-this+in_ok-push}
+use Rattle.number_file.proofs.read_numbers.Goals.{then-is_some-via-then-is_some, then-is_some-via-else-is_some+then-other-ne-FEED}
 
--- ---- the needs
-pub loop-i-init : goal.loop-i-init
-loop-i-init c =
-    let a = c.args in
-    (omega arith, refl, omega arith, λ e. absurd (passed_not refl e), reading_start a.bytes.now a.words.now a.first)
+pub returns-in_err-words : goal.returns-in_err-words
+returns-in_err-words c =
+    rw c.from_residual.ensures (no_number c.loop-byte.invariant.reading (omega arith) c.if-byte-this.true (sym c.take.ensures.value ∙ c.in_err-words.was))
 
-pub shape_of-words-then-not-begun : goal.shape_of-words-then-not-begun
-shape_of-words-then-not-begun c = c.loop-i.invariant.1
+pub returns-in_err-push : goal.returns-in_err-push
+returns-in_err-push c =
+    rw c.from_residual-in_err-push.ensures (wrong_byte c.loop-byte.invariant.reading (omega arith) c.if-byte-this.false
+    (sym c.push.ensures ∙ ap (found out_of_form 0) c.in_err-push.was))
 
-pub returns-then-not-begun : goal.returns-then-not-begun
-returns-then-not-begun c = no_number c.loop-i.invariant.4 (omega arith) c.if-byte-this.true c.if-not-begun.true
+pub loop-byte-preserved : goal.loop-byte-preserved
+loop-byte-preserved c =
+    let i = c.loop-byte.invariant in
+    elim c.if-byte-this.branch [
+      | then-byte-this+in_ok-words w ↦
+          let q = sym w.take.ensures.value ∙ w.in_ok-words.was in
+          let b : 2 * c.loop-byte.count + 1 ≤ c.loop-byte.byte-index = rw q at i.begun in
+          simp (
+            w.words-is,
+            w.this-is,
+            w.other-is,
+            w.so_far-is,
+            w.count-is,
+            w.swap.ensures.x_after,
+            w.swap.ensures.y_after,
+            w.take.ensures.after,
+          ) (record {
+            room = omega arith;
+            begun = tt;
+            size = simp length-set i.size;
+            reading = number_ends i.reading (omega arith) _ w.if-byte-this.true q (omega arith);
+          })
+      | else-byte-this+in_ok-push w ↦ simp (w.words-is, w.this-is, w.other-is, w.so_far-is, w.count-is) (record {
+        room = omega arith;
+        begun = omega arith;
+        size = i.size;
+        reading = digit_read i.reading (omega arith) w.if-byte-this.false _ (sym w.push.ensures ∙ ap (found out_of_form 0) w.in_ok-push.was);
+      })
+    ]
 
-pub offset_bounds-words-count : goal.offset_bounds-words-count
-offset_bounds-words-count c = let b = c.loop-i.invariant.3 c.if-not-begun.false in omega arith
-
-pub bounds-words-count : goal.bounds-words-count
-bounds-words-count c = let b = c.loop-i.invariant.3 c.if-not-begun.false in omega arith
-
-pub overflow_add-count : goal.overflow_add-count
-overflow_add-count c = let b = c.loop-i.invariant.3 c.if-not-begun.false in omega arith
-
-pub loop-i-preserved-then-byte-this : goal.loop-i-preserved-then-byte-this
-loop-i-preserved-then-byte-this c =
-    let l = c.loop-i in
-    let b = l.invariant.3 c.if-not-begun.false in (
-      omega arith,
-      length-set l.words l.count l.value ∙ l.invariant.1,
-      omega arith,
-      λ e. absurd (passed_not refl e),
-      number_ends l.invariant.4 (omega arith) c.if-byte-this.true c.if-not-begun.false (omega arith),
-    )
-
-pub shape_of-words-in_default : goal.shape_of-words-in_default
-shape_of-words-in_default c = c.loop-i.invariant.1
-
-pub returns-in_default : goal.returns-in_default
-returns-in_default c =
-    wrong_byte c.loop-i.invariant.4 (omega arith) c.if-byte-this.false c.push-pushed.result c.push-pushed.ensures c.in_default.is
-
-pub loop-i-preserved : goal.loop-i-preserved
-loop-i-preserved c =
-    let l = c.loop-i in (
-      omega arith,
-      l.invariant.1,
-      omega arith,
-      λ e. omega arith,
-      digit_read l.invariant.4 (omega arith) c.if-byte-this.false c.push-pushed.result c.push-pushed.ensures _ c.in-More.is,
-    )
-
-pub shape_of-words-then-begun : goal.shape_of-words-then-begun
-shape_of-words-then-begun c = c.loop-i.invariant.1
-
-pub returns-then-begun : goal.returns-then-begun
-returns-then-begun c = number_open c.loop-i.invariant.4 (omega arith) c.if-begun.true
-
-pub shape_of-words-then-other-ne-FEED : goal.shape_of-words-then-other-ne-FEED
-shape_of-words-then-other-ne-FEED c = c.loop-i.invariant.1
-
-pub returns-then-other-ne-FEED : goal.returns-then-other-ne-FEED
-returns-then-other-ne-FEED c = line_open c.loop-i.invariant.4 (omega arith) c.if-begun.false c.if-other-ne-FEED.true
-
-pub shape_of-words : goal.shape_of-words
-shape_of-words c = c.loop-i.invariant.1
+pub returns-then-is_some : goal.returns-then-is_some
+returns-then-is_some c =
+    let r = c.loop-byte.invariant.reading in
+    elim c.then-is_some.branch [
+      | then-is_some-via-then-is_some w ↦ number_open r (omega arith) (sym c.is_some.ensures ∙ w.if-is_some.true)
+      | then-is_some-via-else-is_some+then-other-ne-FEED w ↦
+          line_open r (omega arith) w.if-other-ne-FEED.true (is_none (sym c.is_some.ensures ∙ w.if-is_some.false))
+    ]
 
 pub returns : goal.returns
-returns c = read_to_end c.loop-i.invariant.4 (omega arith) c.if-begun.false c.if-other-ne-FEED.false
+returns c = read_to_end c.loop-byte.invariant.reading (omega arith) c.if-other-ne-FEED.false (is_none (sym c.is_some.ensures ∙ c.if-is_some.false))

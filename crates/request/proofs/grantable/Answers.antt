@@ -4,73 +4,52 @@ use mathlib.Core.Path.{refl, sym, ap, ◌∙◌}
 use mathlib.Core.List.{[]}
 use native.Mathlib.Omega.{arith}
 use lib.Seq.{length-take-le}
-use Rattle.register.specs.Records.{ask_of}
+use Rattle.logic.specs.Answer.{answer}
+use Rattle.logic.proofs.Answers.{handed_on}
+use Rattle.records.specs.Entries.{asked}
 use Rattle.register.specs.Calls.{request_own, view, outline_of}
+use Rattle.register.specs.BatchTests.{view_behind}
 use Rattle.buckets.proofs.Buckets.{empty_buckets}
-use Rattle.shared_tests.specs.Shared.{lent_of}
+use Rattle.shared_tests.specs.Shared.{lent_by}
 use Rattle.shared_tests.proofs.OwnTests.{not_prepared, passed_so, table_within}
 use Rattle.request.proofs.Grants.{behind_none, none_before}
 use Rattle.request.proofs.grantable.Goals as goal
 
-pub view_of-view-requires : goal.view_of-view-requires
-view_of-view-requires c =
-    let a = c.args in
-    let lent = lent_of a.sig.now a.n a.ws.now in
-    let asked = ask_of a.operation a.extract a.delivery a.day a.proof.now in
-    let passed = passed_so lent a.register.now c.prepare-ready.new.table c.prepare-ready.result (request_own asked)
-    c.prepare-ready.ensures c.in-Constants.count c.in-Constants.is in
-    passed.lent_so.not_shorter
+pub returns-in_err-count : goal.returns-in_err-count
+returns-in_err-count c =
+    handed_on _ _ c.from_residual.ensures
+    ∙ sym (not_prepared _ _ _ _ (request_own (asked c.args.ask)) c.prepare.ensures _ _ (ap answer c.in_err-count.was))
 
 pub slice_bounds-table-end : goal.slice_bounds-table-end
 slice_bounds-table-end c =
-    let a = c.args in
-    let lent = lent_of a.sig.now a.n a.ws.now in
-    let asked = ask_of a.operation a.extract a.delivery a.day a.proof.now in
-    let passed = passed_so lent a.register.now c.prepare-ready.new.table c.prepare-ready.result (request_own asked)
-    c.prepare-ready.ensures c.in-Constants.count c.in-Constants.is in
-    table_within lent _ _ passed.Σ passed.counted passed.constants
+    let passed = passed_so _ _ _ _ (request_own (asked c.args.ask)) c.prepare.ensures _ (ap answer c.in_ok-count.was) in
+    table_within (lent_by c.args.signature c.args.ws.now) _ _ _ passed.counted passed.constants
 
 pub slice_bounds-request_tests-end : goal.slice_bounds-request_tests-end
 slice_bounds-request_tests-end c =
-    let a = c.args in
-    let lent = lent_of a.sig.now a.n a.ws.now in
-    let asked = ask_of a.operation a.extract a.delivery a.day a.proof.now in
-    let passed = passed_so lent a.register.now c.prepare-ready.new.table c.prepare-ready.result (request_own asked)
-    c.prepare-ready.ensures c.in-Constants.count c.in-Constants.is in
-    sym (length-take-le _ _ (table_within lent _ _ passed.Σ passed.counted passed.constants))
+    let passed = passed_so _ _ _ _ (request_own (asked c.args.ask)) c.prepare.ensures _ (ap answer c.in_ok-count.was) in
+    sym (length-take-le _ _ (table_within (lent_by c.args.signature c.args.ws.now) _ _ _ passed.counted passed.constants))
 
 pub request_tests-requires : goal.request_tests-requires
 request_tests-requires c =
-    let a = c.args in
-    let lent = lent_of a.sig.now a.n a.ws.now in
-    let asked = ask_of a.operation a.extract a.delivery a.day a.proof.now in
-    let passed = passed_so lent a.register.now c.prepare-ready.new.table c.prepare-ready.result (request_own asked)
-    c.prepare-ready.ensures c.in-Constants.count c.in-Constants.is in
+    let passed = passed_so _ _ _ _ (request_own (asked c.args.ask)) c.prepare.ensures _ (ap answer c.in_ok-count.was) in
     record {
       content = passed.content;
       requests = [];
-      seen = none_before a.register.now a.proof.now a.day passed.content c.view_of-view.ensures passed.reads;
-      bucketed = empty_buckets c.view_of-view.result.source a.register.now 1 (omega arith);
+      seen = none_before _ _ c.args.ask.day passed.content c.view_of.ensures passed.reads;
+      bucketed = empty_buckets _ _ 1 (omega arith);
       Σ = passed.Σ;
       constants = passed.constants;
       operations = passed.lent_so.operations;
-      workspace = omega (arith, passed.lent_so.workspace, c.prepare-ready.auto.ws);
+      workspace = omega (arith, passed.lent_so.workspace, c.prepare.auto.ws);
     }
 
-pub returns-in-Refused : goal.returns-in-Refused
-returns-in-Refused c =
-    let a = c.args in
-    let asked = ask_of a.operation a.extract a.delivery a.day a.proof.now in
-    sym (not_prepared (lent_of a.sig.now a.n a.ws.now) a.register.now _ c.prepare-ready.result (request_own asked)
-    c.prepare-ready.ensures _ _ c.in-Refused.is)
-
-pub returns-in-Constants : goal.returns-in-Constants
-returns-in-Constants c =
-    let a = c.args in
-    let lent = lent_of a.sig.now a.n a.ws.now in
-    let asked = ask_of a.operation a.extract a.delivery a.day a.proof.now in
-    let passed = passed_so lent a.register.now c.prepare-ready.new.table c.prepare-ready.result (request_own asked)
-    c.prepare-ready.ensures c.in-Constants.count c.in-Constants.is in
-    c.request_tests.ensures lent passed.Σ passed.content [] refl passed.constants
-    (none_before a.register.now a.proof.now a.day passed.content c.view_of-view.ensures passed.reads)
-    ∙ ap (request_own asked) (behind_none a.day (view lent (outline_of a.register.now) passed.content passed.Σ)) ∙ sym passed.is
+pub returns : goal.returns
+returns c =
+    let lent = lent_by c.args.signature c.args.ws.now in
+    let k = asked c.args.ask in
+    let passed = passed_so _ _ _ _ (request_own k) c.prepare.ensures _ (ap answer c.in_ok-count.was) in
+    c.request_tests.ensures lent passed.Σ passed.content [] refl passed.constants (none_before _ _ k.day passed.content c.view_of.ensures passed.reads)
+    ∙ ap (λ reg. request_own k (view_behind [] k.day (view lent (outline_of reg) passed.content passed.Σ))) c.view_of.ensures.list
+    ∙ ap (request_own k) (behind_none k.day (view lent (outline_of c.args.register.now) passed.content passed.Σ))
+    ∙ sym passed.is

@@ -1,157 +1,129 @@
 -- All tests of a say in turn: the shared ones, its numbers, its day, its principal, the proposition, and those of
 -- `addable`.
-use mathlib.Core.Path.{sym}
-use lib.Seq.{length-take-le}
-use Rattle.register.specs.Records.{Statement, statement_of}
-use Rattle.register.specs.Calls.{Lent, say_own}
-use Rattle.shared_tests.specs.Shared.{lent_of}
-use Rattle.shared_tests.proofs.OwnTests.{PassedSo, passed_so, table_within}
-use Rattle.say.proofs.Statements.{statement_so, say_not_prepared, say_bad_numbers, say_late, say_by_desk}
-use Rattle.say.proofs.Statements.{say_not_stated, say_stated}
+use mathlib.Core.Path.{sym, ap, ◌∙◌}
 use native.Mathlib.Omega.{arith}
+use lib.Seq.{length-take-le}
+use Rattle.logic.specs.Answer.{answer}
+use Rattle.logic.proofs.Answers.{refusal, handed_on}
+use Rattle.logic.proofs.Stopped.{stop}
+use Rattle.register.specs.Calls.{say_own}
+use Rattle.records.specs.Entries.{stated}
+use Rattle.shared_tests.specs.Shared.{lent_by}
+use Rattle.shared_tests.proofs.OwnTests.{PassedSo, passed_so, table_within}
+use Rattle.say.proofs.Statements.{statement_so, say_not_prepared, say_bad_numbers, say_late, say_by_desk, say_not_stated, say_stated}
 use Rattle.say.proofs.sayable.Goals as goal
 
-pub returns-then-not-fine : goal.returns-then-not-fine
-returns-then-not-fine c =
-    let lent-here : Lent = lent_of c.args.sig.now c.args.n c.args.ws.now in
-    let said : Statement = statement_of c.args.principal c.args.first c.args.last c.args.proposition.now in
-    let passed : (let a = c.args in PassedSo lent-here a.register.now c.prepare-ready.new.table c.prepare-ready.result (say_own a.day said)
-    c.prepare-ready.ensures c.in-Constants.count) = let a = c.args in
-    passed_so lent-here a.register.now c.prepare-ready.new.table c.prepare-ready.result
-    (say_own a.day said) c.prepare-ready.ensures c.in-Constants.count c.in-Constants.is in
+pub returns-in_err-count : goal.returns-in_err-count
+returns-in_err-count c =
     let a = c.args in
-    say_bad_numbers lent-here a.register.now c.prepare-ready.new.table a.day said
-    c.prepare-ready.result c.prepare-ready.ensures c.in-Constants.count passed
-    c.good_statement-fine.result (c.good_statement-fine.ensures a.proposition.now) c.if-not-fine.true
+    let l = lent_by a.signature a.ws.now in
+    let st = stated a.statement in
+    stop _ (handed_on _ _ c.from_residual.ensures) ∙ sym (say_not_prepared l a.register.now _ a.day st _ c.prepare.ensures (ap answer c.in_err-count.was))
 
-pub in_time-timely-requires : goal.in_time-timely-requires
-in_time-timely-requires c =
-    let lent-here : Lent = lent_of c.args.sig.now c.args.n c.args.ws.now in
-    let said : Statement = statement_of c.args.principal c.args.first c.args.last c.args.proposition.now in
-    let passed : (let a = c.args in PassedSo lent-here a.register.now c.prepare-ready.new.table c.prepare-ready.result (say_own a.day said)
-    c.prepare-ready.ensures c.in-Constants.count) = let a = c.args in
-    passed_so lent-here a.register.now c.prepare-ready.new.table c.prepare-ready.result
-    (say_own a.day said) c.prepare-ready.ensures c.in-Constants.count c.in-Constants.is in
-    passed.lent_so.not_shorter
-
-pub returns-then-not-timely : goal.returns-then-not-timely
-returns-then-not-timely c =
-    let lent-here : Lent = lent_of c.args.sig.now c.args.n c.args.ws.now in
-    let said : Statement = statement_of c.args.principal c.args.first c.args.last c.args.proposition.now in
-    let passed : (let a = c.args in PassedSo lent-here a.register.now c.prepare-ready.new.table c.prepare-ready.result (say_own a.day said)
-    c.prepare-ready.ensures c.in-Constants.count) = let a = c.args in
-    passed_so lent-here a.register.now c.prepare-ready.new.table c.prepare-ready.result
-    (say_own a.day said) c.prepare-ready.ensures c.in-Constants.count c.in-Constants.is in
+pub returns-then-not-good_statement : goal.returns-then-not-good_statement
+returns-then-not-good_statement c =
     let a = c.args in
-    say_late lent-here a.register.now c.prepare-ready.new.table a.day said
-    c.prepare-ready.result c.prepare-ready.ensures c.in-Constants.count passed
-    c.good_statement-fine.result (c.good_statement-fine.ensures a.proposition.now) c.if-not-fine.false
-    c.in_time-timely.result c.in_time-timely.ensures c.if-not-timely.true
+    let l = lent_by a.signature a.ws.now in
+    let st = stated a.statement in
+    let so : PassedSo l a.register.now c.prepare.new.table c.prepare.result (say_own a.day st) c.prepare.ensures c.in_ok-count.count =
+    passed_so _ _ _ _ _ c.prepare.ensures _ (ap answer c.in_ok-count.was) in
+    ap (λ x. refusal x) c.at.ensures
+    ∙ sym (say_bad_numbers l a.register.now _ a.day st _ _ _ so _ (c.good_statement.ensures a.statement.words.now) c.if-not-good_statement.true)
 
-pub returns-then-principal-eq-DESK : goal.returns-then-principal-eq-DESK
-returns-then-principal-eq-DESK c =
-    let lent-here : Lent = lent_of c.args.sig.now c.args.n c.args.ws.now in
-    let said : Statement = statement_of c.args.principal c.args.first c.args.last c.args.proposition.now in
-    let passed : (let a = c.args in PassedSo lent-here a.register.now c.prepare-ready.new.table c.prepare-ready.result (say_own a.day said)
-    c.prepare-ready.ensures c.in-Constants.count) = let a = c.args in
-    passed_so lent-here a.register.now c.prepare-ready.new.table c.prepare-ready.result
-    (say_own a.day said) c.prepare-ready.ensures c.in-Constants.count c.in-Constants.is in
+pub in_time-requires : goal.in_time-requires
+in_time-requires c =
     let a = c.args in
-    say_by_desk lent-here a.register.now c.prepare-ready.new.table a.day said
-    c.prepare-ready.result c.prepare-ready.ensures c.in-Constants.count passed
-    c.good_statement-fine.result (c.good_statement-fine.ensures a.proposition.now) c.if-not-fine.false
-    c.in_time-timely.result c.in_time-timely.ensures c.if-not-timely.false c.if-principal-eq-DESK.true
+    let l = lent_by a.signature a.ws.now in
+    let st = stated a.statement in
+    let so : PassedSo l a.register.now c.prepare.new.table c.prepare.result (say_own a.day st) c.prepare.ensures c.in_ok-count.count =
+    passed_so _ _ _ _ _ c.prepare.ensures _ (ap answer c.in_ok-count.was) in
+    so.lent_so.not_shorter
+
+pub returns-then-not-in_time : goal.returns-then-not-in_time
+returns-then-not-in_time c =
+    let a = c.args in
+    let l = lent_by a.signature a.ws.now in
+    let st = stated a.statement in
+    let so : PassedSo l a.register.now c.prepare.new.table c.prepare.result (say_own a.day st) c.prepare.ensures c.in_ok-count.count =
+    passed_so _ _ _ _ _ c.prepare.ensures _ (ap answer c.in_ok-count.was) in
+    ap (λ x. refusal x) c.at-then-not-in_time.ensures
+    ∙ sym (say_late l a.register.now _ a.day st _ _ _ so _ (c.good_statement.ensures a.statement.words.now) c.if-not-good_statement.false _ c.in_time.ensures c.if-not-in_time.true)
+
+pub returns-then-statement-eq-DESK : goal.returns-then-statement-eq-DESK
+returns-then-statement-eq-DESK c =
+    let a = c.args in
+    let l = lent_by a.signature a.ws.now in
+    let st = stated a.statement in
+    let so : PassedSo l a.register.now c.prepare.new.table c.prepare.result (say_own a.day st) c.prepare.ensures c.in_ok-count.count =
+    passed_so _ _ _ _ _ c.prepare.ensures _ (ap answer c.in_ok-count.was) in
+    ap (λ x. refusal x) c.at-then-statement-eq-DESK.ensures
+    ∙ sym (say_by_desk l a.register.now _ a.day st _ _ _ so _ (c.good_statement.ensures a.statement.words.now) c.if-not-good_statement.false _ c.in_time.ensures c.if-not-in_time.false
+    c.if-statement-eq-DESK.true)
 
 pub slice_bounds-table-end : goal.slice_bounds-table-end
 slice_bounds-table-end c =
-    let lent-here : Lent = lent_of c.args.sig.now c.args.n c.args.ws.now in
-    let said : Statement = statement_of c.args.principal c.args.first c.args.last c.args.proposition.now in
-    let passed : (let a = c.args in PassedSo lent-here a.register.now c.prepare-ready.new.table c.prepare-ready.result (say_own a.day said)
-    c.prepare-ready.ensures c.in-Constants.count) = let a = c.args in
-    passed_so lent-here a.register.now c.prepare-ready.new.table c.prepare-ready.result
-    (say_own a.day said) c.prepare-ready.ensures c.in-Constants.count c.in-Constants.is in
-    table_within lent-here c.prepare-ready.new.table c.in-Constants.count passed.Σ passed.counted passed.constants
+    let a = c.args in
+    let l = lent_by a.signature a.ws.now in
+    let st = stated a.statement in
+    let so : PassedSo l a.register.now c.prepare.new.table c.prepare.result (say_own a.day st) c.prepare.ensures c.in_ok-count.count =
+    passed_so _ _ _ _ _ c.prepare.ensures _ (ap answer c.in_ok-count.was) in
+    table_within l _ _ _ so.counted so.constants
 
-pub slice_bounds-check_statement-end : goal.slice_bounds-check_statement-end
-slice_bounds-check_statement-end c =
-    let lent-here : Lent = lent_of c.args.sig.now c.args.n c.args.ws.now in
-    let said : Statement = statement_of c.args.principal c.args.first c.args.last c.args.proposition.now in
-    let passed : (let a = c.args in PassedSo lent-here a.register.now c.prepare-ready.new.table c.prepare-ready.result (say_own a.day said)
-    c.prepare-ready.ensures c.in-Constants.count) = let a = c.args in
-    passed_so lent-here a.register.now c.prepare-ready.new.table c.prepare-ready.result
-    (say_own a.day said) c.prepare-ready.ensures c.in-Constants.count c.in-Constants.is in
-    sym
-    (length-take-le c.in-Constants.count c.prepare-ready.new.table
-    (table_within lent-here c.prepare-ready.new.table c.in-Constants.count passed.Σ passed.counted passed.constants))
+pub slice_bounds-constants-end : goal.slice_bounds-constants-end
+slice_bounds-constants-end c =
+    let a = c.args in
+    let l = lent_by a.signature a.ws.now in
+    let st = stated a.statement in
+    let so : PassedSo l a.register.now c.prepare.new.table c.prepare.result (say_own a.day st) c.prepare.ensures c.in_ok-count.count =
+    passed_so _ _ _ _ _ c.prepare.ensures _ (ap answer c.in_ok-count.was) in
+    sym (length-take-le _ _ (table_within l _ _ _ so.counted so.constants))
 
-pub check_statement-stated-requires : goal.check_statement-stated-requires
-check_statement-stated-requires c =
-    let lent-here : Lent = lent_of c.args.sig.now c.args.n c.args.ws.now in
-    let said : Statement = statement_of c.args.principal c.args.first c.args.last c.args.proposition.now in
-    let passed : (let a = c.args in PassedSo lent-here a.register.now c.prepare-ready.new.table c.prepare-ready.result (say_own a.day said)
-    c.prepare-ready.ensures c.in-Constants.count) = let a = c.args in
-    passed_so lent-here a.register.now c.prepare-ready.new.table c.prepare-ready.result
-    (say_own a.day said) c.prepare-ready.ensures c.in-Constants.count c.in-Constants.is in
+pub check_statement-requires : goal.check_statement-requires
+check_statement-requires c =
+    let a = c.args in
+    let l = lent_by a.signature a.ws.now in
+    let st = stated a.statement in
+    let so : PassedSo l a.register.now c.prepare.new.table c.prepare.result (say_own a.day st) c.prepare.ensures c.in_ok-count.count =
+    passed_so _ _ _ _ _ c.prepare.ensures _ (ap answer c.in_ok-count.was) in
     record {
-      Σ = passed.Σ;
-      constants = passed.constants;
-      workspace = omega (arith, passed.lent_so.workspace, c.prepare-ready.auto.ws);
+      Σ = so.Σ;
+      constants = so.constants;
+      workspace = omega (arith, so.lent_so.workspace, c.prepare.auto.ws);
       words = omega arith;
       nesting = omega arith;
     }
 
+pub returns-in_err-check_statement : goal.returns-in_err-check_statement
+returns-in_err-check_statement c =
+    let a = c.args in
+    let l = lent_by a.signature a.ws.now in
+    let st = stated a.statement in
+    let so : PassedSo l a.register.now c.prepare.new.table c.prepare.result (say_own a.day st) c.prepare.ensures c.in_ok-count.count =
+    passed_so _ _ _ _ _ c.prepare.ensures _ (ap answer c.in_ok-count.was) in
+    stop _ (handed_on _ _ c.from_residual-in_err-check_statement.ensures)
+    ∙ sym (say_not_stated l a.register.now _ a.day st _ _ _ so _ (c.good_statement.ensures a.statement.words.now) c.if-not-good_statement.false _ c.in_time.ensures c.if-not-in_time.false
+    c.if-statement-eq-DESK.false (sym (c.check_statement.ensures so.Σ a.statement.principal so.constants) ∙ ap answer c.in_err-check_statement.was))
+
 pub addable-requires : goal.addable-requires
 addable-requires c =
-    let lent-here : Lent = lent_of c.args.sig.now c.args.n c.args.ws.now in
-    let said : Statement = statement_of c.args.principal c.args.first c.args.last c.args.proposition.now in
-    let passed : (let a = c.args in PassedSo lent-here a.register.now c.prepare-ready.new.table c.prepare-ready.result (say_own a.day said)
-    c.prepare-ready.ensures c.in-Constants.count) = let a = c.args in
-    passed_so lent-here a.register.now c.prepare-ready.new.table c.prepare-ready.result
-    (say_own a.day said) c.prepare-ready.ensures c.in-Constants.count c.in-Constants.is in
     let a = c.args in
-    let T = statement_so passed.Σ passed.constants.signature said c.check_statement-stated.result
-    (c.check_statement-stated.ensures passed.Σ a.principal passed.constants) c.in-Passed.is in
-    record { content = passed.content; reads = passed.reads; term = T.term; is = T.term_is; short = T.short }
+    let l = lent_by a.signature a.ws.now in
+    let st = stated a.statement in
+    let so : PassedSo l a.register.now c.prepare.new.table c.prepare.result (say_own a.day st) c.prepare.ensures c.in_ok-count.count =
+    passed_so _ _ _ _ _ c.prepare.ensures _ (ap answer c.in_ok-count.was) in
+    let T = statement_so so.Σ so.constants.signature st
+    (sym (c.check_statement.ensures so.Σ a.statement.principal so.constants) ∙ ap answer c.in_ok-check_statement.was) in
+    record { content = so.content; reads = so.reads; term = T.term; is = T.term_is; short = T.short }
 
-pub returns-in-Refused : goal.returns-in-Refused
-returns-in-Refused c =
-    let lent-here : Lent = lent_of c.args.sig.now c.args.n c.args.ws.now in
-    let said : Statement = statement_of c.args.principal c.args.first c.args.last c.args.proposition.now in
+pub returns : goal.returns
+returns c =
     let a = c.args in
-    say_not_prepared lent-here a.register.now c.prepare-ready.new.table a.day said
-    c.prepare-ready.result c.prepare-ready.ensures _ _ c.in-Refused.is
-
-pub returns-in-Refused-stated : goal.returns-in-Refused-stated
-returns-in-Refused-stated c =
-    let lent-here : Lent = lent_of c.args.sig.now c.args.n c.args.ws.now in
-    let said : Statement = statement_of c.args.principal c.args.first c.args.last c.args.proposition.now in
-    let passed : (let a = c.args in PassedSo lent-here a.register.now c.prepare-ready.new.table c.prepare-ready.result (say_own a.day said)
-    c.prepare-ready.ensures c.in-Constants.count) = let a = c.args in
-    passed_so lent-here a.register.now c.prepare-ready.new.table c.prepare-ready.result
-    (say_own a.day said) c.prepare-ready.ensures c.in-Constants.count c.in-Constants.is in
-    let a = c.args in
-    say_not_stated lent-here a.register.now c.prepare-ready.new.table a.day said
-    c.prepare-ready.result c.prepare-ready.ensures c.in-Constants.count passed
-    c.good_statement-fine.result (c.good_statement-fine.ensures a.proposition.now) c.if-not-fine.false
-    c.in_time-timely.result c.in_time-timely.ensures c.if-not-timely.false c.if-principal-eq-DESK.false
-    c.check_statement-stated.result
-    (c.check_statement-stated.ensures passed.Σ a.principal passed.constants) _ _ c.in-Refused-stated.is
-
-pub returns-in-Passed : goal.returns-in-Passed
-returns-in-Passed c =
-    let lent-here : Lent = lent_of c.args.sig.now c.args.n c.args.ws.now in
-    let said : Statement = statement_of c.args.principal c.args.first c.args.last c.args.proposition.now in
-    let passed : (let a = c.args in PassedSo lent-here a.register.now c.prepare-ready.new.table c.prepare-ready.result (say_own a.day said)
-    c.prepare-ready.ensures c.in-Constants.count) = let a = c.args in
-    passed_so lent-here a.register.now c.prepare-ready.new.table c.prepare-ready.result
-    (say_own a.day said) c.prepare-ready.ensures c.in-Constants.count c.in-Constants.is in
-    let a = c.args in
-    let T = statement_so passed.Σ passed.constants.signature said c.check_statement-stated.result
-    (c.check_statement-stated.ensures passed.Σ a.principal passed.constants) c.in-Passed.is in
-    say_stated lent-here a.register.now c.prepare-ready.new.table a.day said
-    c.prepare-ready.result c.prepare-ready.ensures c.in-Constants.count passed
-    c.good_statement-fine.result (c.good_statement-fine.ensures a.proposition.now) c.if-not-fine.false
-    c.in_time-timely.result c.in_time-timely.ensures c.if-not-timely.false c.if-principal-eq-DESK.false
-    c.check_statement-stated.result
-    (c.check_statement-stated.ensures passed.Σ a.principal passed.constants) T c.addable.result
-    (c.addable.ensures lent-here passed.Σ passed.content T.term passed.reads T.term_is)
+    let l = lent_by a.signature a.ws.now in
+    let st = stated a.statement in
+    let so : PassedSo l a.register.now c.prepare.new.table c.prepare.result (say_own a.day st) c.prepare.ensures c.in_ok-count.count =
+    passed_so _ _ _ _ _ c.prepare.ensures _ (ap answer c.in_ok-count.was) in
+    let T = statement_so so.Σ so.constants.signature st
+    (sym (c.check_statement.ensures so.Σ a.statement.principal so.constants) ∙ ap answer c.in_ok-check_statement.was) in
+    c.addable.ensures l so.Σ so.content T.term so.reads T.term_is
+    ∙ sym (say_stated l a.register.now _ a.day st _ _ _ so _ (c.good_statement.ensures a.statement.words.now) c.if-not-good_statement.false _ c.in_time.ensures c.if-not-in_time.false
+    c.if-statement-eq-DESK.false T)

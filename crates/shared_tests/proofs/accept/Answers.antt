@@ -1,14 +1,12 @@
 -- `accept` makes tests 4 and 5: it reads the signature and tests its permits and receipts.
-use Rattle.shared_tests.proofs.SharedTests.{signature_bad}
-use Rattle.signature.proofs.Accepted.{ConstantsRead, constants_read, count_within}
+use mathlib.Core.Path.{ap}
+use Rattle.logic.specs.Answer.{answer}
+use Rattle.shared_tests.proofs.SharedTests.{operations_fit}
+use Rattle.signature.proofs.Accepted.{ConstantsRead, constants_read}
 use Rattle.shared_tests.proofs.accept.Goals as goal
 
-pub slice_bounds-operations-end : goal.slice_bounds-operations-end
-slice_bounds-operations-end c =
-    let C : ConstantsRead c.args.sig.now c.read_signature-listed.new.table c.in-Accepted.count = constants_read c.args.sig.now c.read_signature-listed.new.table c.in-Accepted.count
-    c.read_signature-listed.result c.read_signature-listed.ensures c.in-Accepted.is in count_within c.args.sig.now c.read_signature-listed.new.table c.in-Accepted.count C
-
-pub returns-in-Refused : goal.returns-in-Refused
-returns-in-Refused c =
-    signature_bad c.args.sig.now _ c.args.n _ c.read_signature-listed.result c.read_signature-listed.ensures
-    c.in-Refused.is
+pub returns : goal.returns
+returns c =
+    let C : ConstantsRead c.args.signature.list.now c.read_signature.new.table c.in_ok-count.count =
+    constants_read _ c.read_signature.ensures (ap answer c.in_ok-count.was) in
+    operations_fit _ _ _ _ C _ (c.operations.ensures C.Σ C.constants_are.declared) c.if-not-operations.false

@@ -4,12 +4,12 @@ use mir.Val.{to_z, of_z}
 use mir.Syntax.{w32}
 use native.Mathlib.Omega.{arith}
 use Rattle.io.proofs.Counting.{prefix_len_of_le}
-use Rattle.words_run.proofs.Tested.{OneTerm, one_term, near}
+use Rattle.words_run.proofs.Tested.{one_read, near}
 use Rattle.words_run.proofs.shifted.Goals as goal
 
-pub shift_into-shift-requires : goal.shift_into-shift-requires
-shift_into-shift-requires c =
-    let h : OneTerm c.args.words.now c.in-End.n = one_term c.args.words.now _ c.read_whole-read.ensures c.in-End.is in
+pub shift_into-requires : goal.shift_into-requires
+shift_into-requires c =
+    let h = one_read c.args.words.now _ c.read_whole.ensures c.ok.ensures.value c.in_ok-n.was in
     record {
       term = h.term;
       whole = h.is;
@@ -20,7 +20,7 @@ shift_into-shift-requires c =
 
 pub returns : goal.returns
 returns c =
-    let h : OneTerm c.args.words.now c.in-End.n = one_term c.args.words.now _ c.read_whole-read.ensures c.in-End.is in
-    let n = (c.shift_into-shift.ensures h.term h.is).words_are in
-    let k = c.shift_into-shift.auto.out in
+    let h = one_read c.args.words.now _ c.read_whole.ensures c.ok.ensures.value c.in_ok-n.was in
+    let n = (c.shift_into.ensures h.term h.is).words_are in
+    let k = c.shift_into.auto.out in
     prefix_len_of_le _ _ (omega (arith, h.count))

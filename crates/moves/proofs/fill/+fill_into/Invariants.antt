@@ -4,6 +4,7 @@
 use Prim.Native.Nat.{ℕ, ◌-◌, ◌≤◌}
 use mathlib.Core.Path.{◌≡◌}
 use mathlib.Core.List.{List}
+use Rattle.std.specs.Prelude.{Option}
 use lib.ListN.{length}
 use Rattle.moves.specs.Fill.{Fillable}
 use Rattle.moves.specs.declared.fill.Filled.{Filled}
@@ -15,7 +16,7 @@ pub record Going (src : List ℕ) (at c : ℕ) (filler out₀ : List ℕ) (to : 
   pub room : place ≤ length out
   pub kept : length out ≡ length out₀
   pub here : Fillable src start depth filler
-  pub whole : (new : List ℕ) (r : Filled) → Fills src start depth filler out place new r → Fills src at c filler out₀ to new r
+  pub whole : (new : List ℕ) (r : Option Filled) → Fills src start depth filler out place new r → Fills src at c filler out₀ to new r
 
 abbrev pub invariant-loop-out : goal.invariant-loop-out
 invariant-loop-out l = Going l.src l.at l.c l.filler l.initial.out l.to l.out l.start l.depth l.place

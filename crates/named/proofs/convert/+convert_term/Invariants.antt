@@ -1,5 +1,4 @@
--- `convert_term` converts the term that stands at a place, by recursion on its parts. The measure is the number of
--- words from the place on.
+-- The measure of `convert_term` is the number of words from the place on.
 use Prim.Native.Nat.{◌-◌}
 use lib.ListN.{length}
 use Rattle.named.proofs.convert.+convert_term.Given as goal

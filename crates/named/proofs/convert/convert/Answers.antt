@@ -1,81 +1,41 @@
 -- `convert` tests a term, converts it in a work list, and copies it to the output if it fits.
-use mathlib.Core.Path.{sym, ap, ◌∙◌}
-use mathlib.Core.List.{map}
-use lib.ListN.{length, length-map}
+use mathlib.Core.Path.{ap}
 use native.Mathlib.Omega.{arith}
-use Rattle.words.proofs.Lists.{written_front}
-use Rattle.editions.specs.Edition.{unnamed}
-use Rattle.named.specs.Answers.{scope}
-use Rattle.editions.proofs.Scopes.{no_names}
-use Rattle.named.proofs.Calls.{TermIn, too_long, test_refused, test_passed, no_binder, short_output, all_written, whole_at}
+use Rattle.std.proofs.Common.{length-take-le}
+use Rattle.logic.specs.Answer.{answer}
+use Rattle.logic.proofs.Answers.{refusal, handed_on}
+use Rattle.named.proofs.Calls.{TermIn, bare_words, test_refused, test_passed, no_binder, short_output, all_written, convertible, copied}
 use Rattle.named.proofs.convert.convert.Goals as goal
 
-pub returns-then-len-gt-MOST_WORDS : goal.returns-then-len-gt-MOST_WORDS
-returns-then-len-gt-MOST_WORDS c =
-    let a = c.args in
-    too_long a.edition a.term.now a.output.now c.if-len-gt-MOST_WORDS.true
+pub returns-in_err-term_test : goal.returns-in_err-term_test
+returns-in_err-term_test c =
+    test_refused c.args.edition c.args.term.now c.args.output.now _ (bare_words _ _ _ _ c.unnamed_words.ensures) _ c.term_test.ensures _ _ _
+    (ap answer c.in_err-term_test.was) (handed_on _ _ c.from_residual.ensures)
 
-pub slice_bounds-term_test-end : goal.slice_bounds-term_test-end
-slice_bounds-term_test-end c =
-    let a = c.args in
-    sym (ap length (let a = c.args in
-    written_front _ _ (map (unnamed a.edition) a.term.now) (length a.term.now) c.unnamed_words.ensures
-    (sym (length-map a.term.now (unnamed a.edition)))) ∙ length-map a.term.now (unnamed a.edition))
-
-pub returns-in-Refused : goal.returns-in-Refused
-returns-in-Refused c =
-    let a = c.args in
-    test_refused a.edition a.term.now a.output.now _ (let a = c.args in
-    written_front _ _ (map (unnamed a.edition) a.term.now) (length a.term.now) c.unnamed_words.ensures
-    (sym (length-map a.term.now (unnamed a.edition)))) c.term_test-tested.result c.term_test-tested.ensures _ _
-    c.in-Refused.is
-
-pub convert_term-ending-requires : goal.convert_term-ending-requires
-unfolding scope
-convert_term-ending-requires c =
-    let T : (let a = c.args in TermIn a.edition a.term.now) = let a = c.args in
-    test_passed a.edition a.term.now a.output.now _ (let a = c.args in
-    written_front _ _ (map (unnamed a.edition) a.term.now) (length a.term.now) c.unnamed_words.ensures
-    (sym (length-map a.term.now (unnamed a.edition)))) c.term_test-tested.result c.term_test-tested.ensures
-    c.in_default.is in
+pub convert_term-requires : goal.convert_term-requires
+convert_term-requires c =
+    let T : TermIn c.args.edition c.args.term.now =
+    test_passed _ _ c.args.output.now _ (bare_words _ _ _ _ c.unnamed_words.ensures) _ c.term_test.ensures (ap answer c.in_ok-term_test.was) in
     let k = c.unnamed_words.auto.out in
-    record {
-      scoped = no_names c.args.edition;
-      s = T.term;
-      here = whole_at T.words;
-      room = omega (arith, c.if-len-gt-MOST_WORDS.false);
-      deep = omega (arith, T.words.nested);
-    }
+    convertible T c.new.ensures (omega arith)
 
-pub returns-in-Unbound : goal.returns-in-Unbound
-unfolding scope
-returns-in-Unbound c =
-    let a = c.args in
-    no_binder a.edition a.term.now a.output.now (let a = c.args in
-    test_passed a.edition a.term.now a.output.now _ (let a = c.args in
-    written_front _ _ (map (unnamed a.edition) a.term.now) (length a.term.now) c.unnamed_words.ensures
-    (sym (length-map a.term.now (unnamed a.edition)))) c.term_test-tested.result c.term_test-tested.ensures
-    c.in_default.is) _ _ c.convert_term-ending.result c.convert_term-ending.ensures _
-    c.in-Unbound.is
+pub returns-in_err-convert_term : goal.returns-in_err-convert_term
+returns-in_err-convert_term c =
+    let T : TermIn c.args.edition c.args.term.now =
+    test_passed _ _ c.args.output.now _ (bare_words _ _ _ _ c.unnamed_words.ensures) _ c.term_test.ensures (ap answer c.in_ok-term_test.was) in
+    no_binder _ _ _ T _ _ _ _ c.new.ensures c.convert_term.ensures _ _ _ (ap answer c.in_err-convert_term.was)
+    (handed_on _ _ c.from_residual-in_err-convert_term.ensures)
 
 pub returns-then-output-len : goal.returns-then-output-len
-unfolding scope
 returns-then-output-len c =
-    let a = c.args in
-    short_output a.edition a.term.now a.output.now (let a = c.args in
-    test_passed a.edition a.term.now a.output.now _ (let a = c.args in
-    written_front _ _ (map (unnamed a.edition) a.term.now) (length a.term.now) c.unnamed_words.ensures
-    (sym (length-map a.term.now (unnamed a.edition)))) c.term_test-tested.result c.term_test-tested.ensures
-    c.in_default.is) _ _ c.convert_term-ending.result c.convert_term-ending.ensures _
-    c.in_default-ending.is c.if-output-len.true
+    let T : TermIn c.args.edition c.args.term.now =
+    test_passed _ _ c.args.output.now _ (bare_words _ _ _ _ c.unnamed_words.ensures) _ c.term_test.ensures (ap answer c.in_ok-term_test.was) in
+    short_output _ _ _ T _ _ _ _ c.new.ensures c.convert_term.ensures _ (ap answer c.in_ok-convert_term.was) _ c.if-output-len.true
+    (ap refusal c.at-then-output-len.ensures)
 
 pub returns : goal.returns
-unfolding scope
 returns c =
-    let a = c.args in
-    all_written a.edition a.term.now a.output.now (let a = c.args in
-    test_passed a.edition a.term.now a.output.now _ (let a = c.args in
-    written_front _ _ (map (unnamed a.edition) a.term.now) (length a.term.now) c.unnamed_words.ensures
-    (sym (length-map a.term.now (unnamed a.edition)))) c.term_test-tested.result c.term_test-tested.ensures
-    c.in_default.is) _ _ c.convert_term-ending.result c.convert_term-ending.ensures _
-    c.in_default-ending.is _ c.if-output-len.false c.copy.ensures
+    let T : TermIn c.args.edition c.args.term.now =
+    test_passed _ _ c.args.output.now _ (bare_words _ _ _ _ c.unnamed_words.ensures) _ c.term_test.ensures (ap answer c.in_ok-term_test.was) in
+    all_written _ _ _ T _ _ _ _ c.new.ensures c.convert_term.ensures _ (ap answer c.in_ok-convert_term.was) _ c.if-output-len.false
+    (copied _ _ _ _ c.copy_from_slice.ensures.after (length-take-le _ _ (omega (arith, c.convert_term.auto.out, c.unnamed_words.auto.out))))

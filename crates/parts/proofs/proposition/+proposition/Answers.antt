@@ -1,50 +1,52 @@
 -- `proposition` tells whether a type's conclusion is none of the six sorts, by recursion on the body of a Pi. The
 -- measure is the number of words from the type's place to the end of the list.
-use Prim.Native.Nat.{ℕ, ◌<◌}
-use mathlib.Core.Path.{sym, subst, ◌∙◌}
+use Prim.Native.Nat.{ℕ, ◌<◌, ◌≤◌}
+use mathlib.Core.Path.{◌≡◌, sym, subst, ◌∙◌}
 use native.Mathlib.Omega.{arith}
-use lib.ListN.{length}
 use Rattle.std.proofs.lemmas.Bool.{eq-eqb, ne_eqb, lt-ltb, le-ltb}
+use Rattle.logic.specs.Tags.{tag_variable, tag_pi, tag_bind}
 use Rattle.words.specs.Typed.{TypeAt}
-use Rattle.words.proofs.Types.{PiAt, pi_at, no_pi, type_within}
+use Rattle.words.proofs.Types.{pi_at, no_pi, type_within}
 use Rattle.parts.proofs.proposition.+proposition.Goals as goal
 
 pub offset_bounds-words-at : goal.offset_bounds-words-at
-offset_bounds-words-at t c = let r : c.args.at < length c.args.words.now = type_within c.requires.here in omega arith
+offset_bounds-words-at t c = let r = type_within c.requires.here in omega arith
 
 pub bounds-words-at : goal.bounds-words-at
-bounds-words-at t c = let r : c.args.at < length c.args.words.now = type_within c.requires.here in omega arith
+bounds-words-at t c = type_within c.requires.here
 
-pub overflow_add-at : goal.overflow_add-at
-overflow_add-at t c = let r : c.args.at < length c.args.words.now = type_within c.requires.here in omega arith
-
-pub skip-next-requires : goal.skip-next-requires
-skip-next-requires t c = let p : PiAt c.args.words.now c.args.at c.requires.type = pi_at c.args.words.now c.args.at _ c.requires.type c.tag_of-tag.ensures c.requires.here (eq-eqb _ _ c.if-pi.true) in record { term = p.domain; here = p.left }
+pub skip-body-requires : goal.skip-body-requires
+skip-body-requires t c = let p = pi_at _ _ _ _ c.tag_of.ensures c.requires.here (eq-eqb _ _ c.in-8.is) in record { term = p.domain; here = p.left }
 
 pub proposition-requires : goal.proposition-requires
 proposition-requires t c =
-    let r : c.args.at < length c.args.words.now = type_within c.requires.here in
-    let p : PiAt c.args.words.now c.args.at c.requires.type = pi_at c.args.words.now c.args.at _ c.requires.type c.tag_of-tag.ensures c.requires.here (eq-eqb _ _ c.if-pi.true) in
-    let e = c.skip-next.ensures p.domain p.left in
+    let r = type_within c.requires.here in
+    let p = pi_at _ _ _ _ c.tag_of.ensures c.requires.here (eq-eqb _ _ c.in-8.is) in
+    let e = c.skip-body.ensures p.domain p.left in
     (omega arith, record { type = p.body; here = subst (λ (j : ℕ). TypeAt c.args.words.now j p.body) (sym e) p.right })
 
-pub returns-then-pi : goal.returns-then-pi
-returns-then-pi t c =
-    let a = c.args in
-    λ A h. let p = pi_at a.words.now a.at _ A c.tag_of-tag.ensures h (eq-eqb _ _ c.if-pi.true) in
-    let e = c.skip-next.ensures p.domain p.left in
-    c.proposition.ensures p.body (subst (λ (j : ℕ). TypeAt a.words.now j p.body) (sym e) p.right) ∙ sym p.same
+pub returns-in-8 : goal.returns-in-8
+returns-in-8 t c =
+    λ A h. let p = pi_at _ _ _ A c.tag_of.ensures h (eq-eqb _ _ c.in-8.is) in
+    let e = c.skip-body.ensures p.domain p.left in
+    c.proposition.ensures p.body (subst (λ (j : ℕ). TypeAt c.args.words.now j p.body) (sym e) p.right) ∙ sym p.same
 
-pub returns-then-low : goal.returns-then-low
-returns-then-low t c =
-    λ A h. no_pi c.args.words.now c.args.at _ A _ c.tag_of-tag.ensures h (ne_eqb _ _ c.if-pi.false) (simp (lt-ltb _ _ c.if-low.true))
+pub returns-in-5-to-15 : goal.returns-in-5-to-15
+returns-in-5-to-15 t c =
+    let n = c.tag_of.result in
+    let low : tag_variable ≤ n = omega arith in
+    let high : n ≤ tag_bind = omega arith in
+    λ A h. no_pi _ _ _ A _ c.tag_of.ensures h (ne_eqb _ _ (λ (e : n ≡ tag_pi). omega arith)) (simp (le-ltb _ _ low, le-ltb _ _ high))
 
-pub returns-then-sort : goal.returns-then-sort
-returns-then-sort t c =
-    λ A h. no_pi c.args.words.now c.args.at _ A _ c.tag_of-tag.ensures h (ne_eqb _ _ c.if-pi.false)
-    (simp (le-ltb _ _ c.if-low.false, lt-ltb _ _ c.if-sort.true))
+pub returns-in_default : goal.returns-in_default
+returns-in_default t c =
+    let n = c.tag_of.result in
+    let low : n < tag_variable = omega arith in
+    λ A h. no_pi _ _ _ A _ c.tag_of.ensures h (ne_eqb _ _ (λ (e : n ≡ tag_pi). omega arith)) (simp (lt-ltb _ _ low))
 
-pub returns : goal.returns
-returns t c =
-    λ A h. no_pi c.args.words.now c.args.at _ A _ c.tag_of-tag.ensures h (ne_eqb _ _ c.if-pi.false)
-    (simp (le-ltb _ _ c.if-low.false, le-ltb _ _ c.if-sort.false))
+pub returns-in_default-2 : goal.returns-in_default-2
+returns-in_default-2 t c =
+    let n = c.tag_of.result in
+    let low : tag_variable ≤ n = omega arith in
+    let high : tag_bind < n = omega arith in
+    λ A h. no_pi _ _ _ A _ c.tag_of.ensures h (ne_eqb _ _ (λ (e : n ≡ tag_pi). omega arith)) (simp (le-ltb _ _ low, lt-ltb _ _ high))

@@ -1,103 +1,76 @@
 -- `formed` gives a node's type: by the node's word, one of the results of `apply`, `bind` and `pair`, or the type of
 -- the second child, tested.
-use Rattle.std.proofs.lemmas.Bool.{eq-eqb, ne_eqb}
-use Prim.Native.Nat.{◌<◌}
 use native.Mathlib.Omega.{arith}
-use mathlib.Core.Bool.{false}
-use mathlib.Core.Path.{◌≡◌, refl}
-use lib.ListN.{length, get_or}
-use lib.Dec.{eqb}
-use Rattle.logic.specs.Term.{propA, kindPA, lamO, appO, retO, bindO, op_word}
-use Rattle.words.proofs.Types.{at_type, type_within}
-use Rattle.results.proofs.Formings.{formed_app, formed_bind, formed_lam, formed_ret, appliable, bindable, pairable, formed_prop}
-use Rattle.results.proofs.Formings.{formed_no_says, formed_kind, formed_no_pi}
+use mathlib.Core.Path.{refl, ap}
+use lib.ListN.{get_or}
+use Rattle.logic.specs.Term.{propA, kindPA, lamO, retO}
+use Rattle.logic.proofs.Answers.{refusal}
+use Rattle.words.proofs.Places.{at_within}
+use Rattle.results.proofs.Formings.{formed_app, formed_bind, formed_lam, formed_ret, appliable, bindable, pairable, formed_says, formed_no_says}
+use Rattle.results.proofs.Formings.{NoOther, formed_prop, formed_kind, formed_no_pi}
 use Rattle.results.proofs.formed.formed.Goals as goal
+use Rattle.results.proofs.formed.formed.Goals.{else-not-front_is-2-via-then-not-front_is-2+else-not-front_is-3}
+use Rattle.results.proofs.formed.formed.Goals.{else-not-front_is-2-via-else-not-front_is-2}
 
 pub offset_bounds-proof-at : goal.offset_bounds-proof-at
-offset_bounds-proof-at c =
-    let within : c.args.at < length c.args.proof.now = type_within (at_type c.requires.forms.here) in
-    omega (arith, c.requires.short)
+offset_bounds-proof-at c = let w = at_within c.requires.forms.here in omega (arith, c.requires.short)
 
 pub bounds-proof-at : goal.bounds-proof-at
-bounds-proof-at c =
-    let within : c.args.at < length c.args.proof.now = type_within (at_type c.requires.forms.here) in
-    within
+bounds-proof-at c = at_within c.requires.forms.here
 
 pub apply-requires : goal.apply-requires
-apply-requires c =
-    let a = c.args in
-    appliable a.proof.now a.ws.now a.used a.at a.next a.n a.m a.end c.requires (eq-eqb _ _ c.if-is_app.true)
+apply-requires c = appliable c.requires c.in-167772160.is
 
-pub returns-then-is_app : goal.returns-then-is_app
-returns-then-is_app c =
-    let a = c.args in
-    formed_app a.proof.now a.ws.now a.used a.at a.next a.n a.m a.end _ _ (eq-eqb _ _ c.if-is_app.true)
-    c.apply.ensures
+pub returns-in-167772160 : goal.returns-in-167772160
+returns-in-167772160 c = formed_app c.in-167772160.is c.apply.ensures
 
 pub bind-requires : goal.bind-requires
-bind-requires c =
-    let a = c.args in bindable a.proof.now a.ws.now a.used a.at a.next a.n a.m a.end c.requires (eq-eqb _ _ c.if-is_bind.true)
+bind-requires c = bindable c.requires c.in-251658240.is
 
-pub returns-then-is_bind : goal.returns-then-is_bind
-returns-then-is_bind c =
-    let a = c.args in
-    formed_bind a.proof.now a.ws.now a.used a.at a.next a.n a.m a.end _ _ (eq-eqb _ _ c.if-is_bind.true)
-    c.bind.ensures
+pub returns-in-251658240 : goal.returns-in-251658240
+returns-in-251658240 c = formed_bind c.in-251658240.is c.bind.ensures
 
 pub pair-requires : goal.pair-requires
-pair-requires c =
-    let a = c.args in pairable a.proof.now a.ws.now a.used a.at a.next a.n a.m a.end c.requires lamO refl (eq-eqb _ _ c.if-is_lam.true)
+pair-requires c = pairable c.requires lamO refl c.in-150994944.is
 
-pub returns-then-is_lam : goal.returns-then-is_lam
-returns-then-is_lam c =
-    let a = c.args in
-    formed_lam a.proof.now a.ws.now a.used a.at a.next a.n a.m a.end _ _ (eq-eqb _ _ c.if-is_lam.true)
-    c.pair.ensures
+pub returns-in-150994944 : goal.returns-in-150994944
+returns-in-150994944 c = formed_lam c.in-150994944.is c.pair.ensures
 
-pub pair-requires-then-is_ret : goal.pair-requires-then-is_ret
-pair-requires-then-is_ret c =
-    let a = c.args in pairable a.proof.now a.ws.now a.used a.at a.next a.n a.m a.end c.requires retO refl (eq-eqb _ _ c.if-is_ret.true)
+pub pair-requires-in-234881024 : goal.pair-requires-in-234881024
+pair-requires-in-234881024 c = pairable c.requires retO refl c.in-234881024.is
 
-pub returns-then-is_ret : goal.returns-then-is_ret
-returns-then-is_ret c =
-    let a = c.args in
-    formed_ret a.proof.now a.ws.now a.used a.at a.next a.n a.m a.end _ _ (eq-eqb _ _ c.if-is_ret.true)
-    c.pair-then-is_ret.ensures
+pub returns-in-234881024 : goal.returns-in-234881024
+returns-in-234881024 c = formed_ret c.in-234881024.is c.pair-in-234881024.ensures
 
-pub returns-then-is_prop : goal.returns-then-is_prop
-returns-then-is_prop c =
-    let others : (let a = c.args in (eqb (get_or a.proof.now a.at 0) (op_word appO) ≡ false) × (eqb (get_or a.proof.now a.at 0) (op_word bindO)
-    ≡ false) × (eqb (get_or a.proof.now a.at 0) (op_word lamO) ≡ false) × (eqb (get_or a.proof.now a.at 0) (op_word retO) ≡ false)) =
-    ((ne_eqb _ _ c.if-is_app.false), (ne_eqb _ _ c.if-is_bind.false), (ne_eqb _ _ c.if-is_lam.false), (ne_eqb _ _ c.if-is_ret.false)) in
-    let a = c.args in
-    formed_prop a.proof.now a.ws.now a.used a.at a.next a.n a.m a.end others c.front_is-is_prop.result
-    ((λ B h. c.front_is-is_prop.ensures B propA h refl tt)) c.if-is_prop.true
+pub returns-then-not-front_is : goal.returns-then-not-front_is
+returns-then-not-front_is c =
+    formed_no_says c.in-117440512.is (λ B h. c.front_is.ensures B propA h refl tt) c.if-not-front_is.true (ap refusal c.at.ensures)
 
-pub returns-then-is_says : goal.returns-then-is_says
-returns-then-is_says c =
-    let others : (let a = c.args in (eqb (get_or a.proof.now a.at 0) (op_word appO) ≡ false) × (eqb (get_or a.proof.now a.at 0) (op_word bindO)
-    ≡ false) × (eqb (get_or a.proof.now a.at 0) (op_word lamO) ≡ false) × (eqb (get_or a.proof.now a.at 0) (op_word retO) ≡ false)) =
-    ((ne_eqb _ _ c.if-is_app.false), (ne_eqb _ _ c.if-is_bind.false), (ne_eqb _ _ c.if-is_lam.false), (ne_eqb _ _ c.if-is_ret.false)) in
-    let a = c.args in
-    formed_no_says a.proof.now a.ws.now a.used a.at a.next a.n a.m a.end others c.front_is-is_prop.result
-    ((λ B h. c.front_is-is_prop.ensures B propA h refl tt)) c.if-is_prop.false (eq-eqb _ _ c.if-is_says.true)
+pub returns-else-not-front_is : goal.returns-else-not-front_is
+returns-else-not-front_is c = formed_says c.in-117440512.is (λ B h. c.front_is.ensures B propA h refl tt) c.if-not-front_is.false
 
-pub returns-then-is_kind : goal.returns-then-is_kind
-returns-then-is_kind c =
-    let others : (let a = c.args in (eqb (get_or a.proof.now a.at 0) (op_word appO) ≡ false) × (eqb (get_or a.proof.now a.at 0) (op_word bindO)
-    ≡ false) × (eqb (get_or a.proof.now a.at 0) (op_word lamO) ≡ false) × (eqb (get_or a.proof.now a.at 0) (op_word retO) ≡ false)) =
-    ((ne_eqb _ _ c.if-is_app.false), (ne_eqb _ _ c.if-is_bind.false), (ne_eqb _ _ c.if-is_lam.false), (ne_eqb _ _ c.if-is_ret.false)) in
-    let a = c.args in
-    formed_kind a.proof.now a.ws.now a.used a.at a.next a.n a.m a.end others c.front_is-is_prop.result
-    ((λ B h. c.front_is-is_prop.ensures B propA h refl tt)) c.if-is_prop.false (ne_eqb _ _ c.if-is_says.false) c.front_is-is_kind.result
-    ((λ B h. c.front_is-is_kind.ensures B kindPA h refl tt)) c.if-is_kind.true
+pub returns-then-not-front_is-3 : goal.returns-then-not-front_is-3
+returns-then-not-front_is-3 c =
+    formed_no_pi (record {
+      no_app = λ e. omega arith;
+      no_bind = λ e. omega arith;
+      no_lam = λ e. omega arith;
+      no_ret = λ e. omega arith;
+      no_says = λ e. omega arith;
+    }) (λ B h. c.front_is-in_default.ensures B propA h refl tt) c.if-not-front_is-2.true
+    (λ B h. c.front_is-then-not-front_is-2.ensures B kindPA h refl tt) c.if-not-front_is-3.true (ap refusal c.at-then-not-front_is-3.ensures)
 
-pub returns : goal.returns
-returns c =
-    let others : (let a = c.args in (eqb (get_or a.proof.now a.at 0) (op_word appO) ≡ false) × (eqb (get_or a.proof.now a.at 0) (op_word bindO)
-    ≡ false) × (eqb (get_or a.proof.now a.at 0) (op_word lamO) ≡ false) × (eqb (get_or a.proof.now a.at 0) (op_word retO) ≡ false)) =
-    ((ne_eqb _ _ c.if-is_app.false), (ne_eqb _ _ c.if-is_bind.false), (ne_eqb _ _ c.if-is_lam.false), (ne_eqb _ _ c.if-is_ret.false)) in
-    let a = c.args in
-    formed_no_pi a.proof.now a.ws.now a.used a.at a.next a.n a.m a.end others c.front_is-is_prop.result
-    ((λ B h. c.front_is-is_prop.ensures B propA h refl tt)) c.if-is_prop.false (ne_eqb _ _ c.if-is_says.false) c.front_is-is_kind.result
-    ((λ B h. c.front_is-is_kind.ensures B kindPA h refl tt)) c.if-is_kind.false
+pub returns-else-not-front_is-2 : goal.returns-else-not-front_is-2
+returns-else-not-front_is-2 c =
+    let n : NoOther (get_or c.args.proof.now c.args.at 0) = record {
+      no_app = λ e. omega arith;
+      no_bind = λ e. omega arith;
+      no_lam = λ e. omega arith;
+      no_ret = λ e. omega arith;
+      no_says = λ e. omega arith;
+    } in
+    elim c.else-not-front_is-2.branch [
+      | else-not-front_is-2-via-then-not-front_is-2+else-not-front_is-3 w ↦ formed_kind n (λ B h. c.front_is-in_default.ensures B propA h refl tt)
+          w.if-not-front_is-2.true (λ B h. w.front_is-then-not-front_is-2.ensures B kindPA h refl tt) w.if-not-front_is-3.false
+      | else-not-front_is-2-via-else-not-front_is-2 w ↦ formed_prop n (λ B h. c.front_is-in_default.ensures B propA h refl tt) w.if-not-front_is-2.false
+    ]

@@ -2,18 +2,9 @@
 -- three first words are written.
 use Rattle.rules.proofs.Enters.{says_size, principal_at, says_kept}
 use Rattle.logic.specs.Term.{size}
-use mathlib.Core.Logic.{inr}
 use mathlib.Core.Path.{◌≡◌}
 use native.Mathlib.Omega.{arith}
 use Rattle.rules.proofs.enter.keep_says.Goals as goal
-
-pub copy_within-requires : goal.copy_within-requires
-copy_within-requires c =
-    record {
-      source = omega (arith, c.requires.room);
-      target = omega (arith, c.requires.room, c.requires.small);
-      ahead = inr (omega (arith, c.requires.room, c.requires.small));
-    }
 
 pub shift_within-principal-requires : goal.shift_within-principal-requires
 shift_within-principal-requires c =

@@ -1,36 +1,10 @@
 -- `binder` searches the entry of variable n, by a loop over entries. The invariant (`BinderFound`): from `kept` on,
 -- the words kept are the entries of the binders behind the first n - left. The measure is `kept`.
-use Rattle.rules.proofs.Scopes.{EntryStep, entry_step, passed_none, passed_n, passed_one, passed_all}
+use Rattle.rules.proofs.Scopes.{EntryStep, entry_step, passed_one, passed_all}
 use Prim.Native.Nat.{◌-◌}
 use Rattle.rules.specs.Variable.{BinderFound}
 use native.Mathlib.Omega.{arith}
 use Rattle.rules.proofs.scope.binder.Goals as goal
-
-pub loop-kept-init : goal.loop-kept-init
-loop-kept-init c = (omega arith, λ proof Γ b. passed_none c.args.n c.requires.below b)
-
-pub returns-then-left-eq0 : goal.returns-then-left-eq0
-returns-then-left-eq0 c =
-    λ proof Γ b. passed_n c.loop-kept.left c.args.n c.if-left-eq0.true (c.loop-kept.invariant.1 proof Γ b)
-
-pub overflow_sub-kept : goal.overflow_sub-kept
-overflow_sub-kept c =
-    let reached : BinderFound c.requires.proof c.args.ws.now c.args.floor c.args.used (c.args.n - c.loop-kept.left) c.requires.Γ c.loop-kept.kept =
-    c.loop-kept.invariant.1 c.requires.proof c.requires.Γ c.requires.binders in
-    omega arith
-
-pub bounds-ws-ws : goal.bounds-ws-ws
-bounds-ws-ws c =
-    let reached : BinderFound c.requires.proof c.args.ws.now c.args.floor c.args.used (c.args.n - c.loop-kept.left) c.requires.Γ c.loop-kept.kept =
-    c.loop-kept.invariant.1 c.requires.proof c.requires.Γ c.requires.binders in
-    omega arith
-
-pub overflow_cast-kept : goal.overflow_cast-kept
-overflow_cast-kept c =
-    let reached : BinderFound c.requires.proof c.args.ws.now c.args.floor c.args.used (c.args.n - c.loop-kept.left) c.requires.Γ c.loop-kept.kept =
-    c.loop-kept.invariant.1 c.requires.proof c.requires.Γ c.requires.binders in
-    let next : EntryStep c.args.ws.now c.args.floor c.loop-kept.kept = entry_step c.loop-kept-test.true c.requires.inside reached in
-    omega arith
 
 pub overflow_sub-kept-in-loop-kept : goal.overflow_sub-kept-in-loop-kept
 overflow_sub-kept-in-loop-kept c =

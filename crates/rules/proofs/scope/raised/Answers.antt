@@ -9,41 +9,10 @@ use mir.Syntax.{w32}
 use mir.Val.{to_z, of_z}
 use Rattle.words.specs.Place.{Is}
 use Rattle.words.proofs.Places.{size_is}
-use Rattle.rules.proofs.Variables.{amount_fits, amount_is, amount_near, cond_length, raised_front}
+use Rattle.rules.proofs.Variables.{amount_is, raised_front}
 use Rattle.rules.proofs.scope.raised.Goals as goal
 
 -- ---- the needs
-pub overflow_add-from : goal.overflow_add-from
-overflow_add-from c =
-    let l = cond_length c.args.in_workspace c.args.ws.now c.args.proof.now in
-    omega (arith, c.well_formed, c.requires.inside.1)
-
-pub lookup-part-requires : goal.lookup-part-requires
-lookup-part-requires c = c.requires.inside
-
-pub overflow_add-n : goal.overflow_add-n
-overflow_add-n c = amount_fits c.args.n _ c.requires.number (omega arith)
-
-pub shift_into-raised-requires : goal.shift_into-raised-requires
-shift_into-raised-requires c =
-    let p = c.requires in
-    let i : Is c.lookup-part.result.now p.type = subst (λ (x : List ℕ). Is x p.type) (sym c.lookup-part.ensures) p.part in
-    let l = size_is _ p.type i in
-    record {
-      term = p.type;
-      whole = i;
-      fits = omega (arith, p.type_words, p.fits);
-      deep = omega (arith, p.type_words, p.small);
-      near = amount_near c.args.n _ p.number (omega arith);
-    }
-
-pub copy-requires : goal.copy-requires
-copy-requires c =
-    let p = c.requires in
-    let k = (c.shift_into-raised.ensures p.type (subst (λ (x : List ℕ). Is x p.type) (sym c.lookup-part.ensures) p.part)).words_are in
-    let l = c.shift_into-raised.auto.out in
-    (omega (arith, p.type_words, p.fits), omega (arith, p.type_words, p.small, p.front))
-
 pub returns : goal.returns
 returns c =
     let amount : to_z w32 (of_z w32 (to_z w32 c.args.n +ℤ pos 1)) ≡ pos (suc c.args.n) = amount_is c.args.n 1 c.requires.number (omega arith) ∙ ap

@@ -9,10 +9,10 @@ use Rattle.signature.specs.Listing.{succeeded}
 use Rattle.signature.proofs.Listings.{permit_passes, receipt_passes}
 use Rattle.signature.proofs.list.common.Goals as goal
 
-pub returns-then-permitted : goal.returns-then-permitted
+pub returns-then-same : goal.returns-then-same
 unfolding encode
-returns-then-permitted c = λ Σ e. ap (λ (l : List ℕ). succeeded (constant-type Σ l)) (c.same-permitted.ensures.0 c.if-permitted.true) ∙ permit_passes Σ
+returns-then-same c = λ Σ e. ap (λ (l : List ℕ). succeeded (constant-type Σ l)) (c.same.ensures.0 c.if-same.true) ∙ permit_passes Σ
 
-pub returns : goal.returns
+pub returns-else-same : goal.returns-else-same
 unfolding encode
-returns c = λ Σ e. ap (λ (l : List ℕ). succeeded (constant-type Σ l)) (c.same.ensures.0 e) ∙ receipt_passes Σ
+returns-else-same c = λ Σ e. ap (λ (l : List ℕ). succeeded (constant-type Σ l)) (c.same-else-same.ensures.0 e) ∙ receipt_passes Σ

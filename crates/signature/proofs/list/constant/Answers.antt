@@ -1,17 +1,17 @@
 -- `constant` tests one constant of the list: its length word, its words, and its type, which is a common one or is
 -- derived.
 use Prim.Native.Nat.{ℕ, ◌+◌, ◌-◌}
-use mathlib.Core.Path.{◌≡◌, refl, sym, ap, subst, ◌∙◌}
+use native.Mathlib.Omega.{arith}
+use mathlib.Core.Path.{◌≡◌, refl, sym, ap, ◌∙◌}
 use mathlib.Core.List.{List}
-use lib.ListN.{length, take, drop, get_or}
-use Rattle.logic.specs.Limits.{most_words, most_nesting}
+use lib.ListN.{take, drop, get_or}
 use Rattle.logic.specs.Term.{kindPA}
 use Rattle.logic.specs.SignatureList.{constant as constant-type}
-use Rattle.typing.specs.Check.{typed_term, Judged}
 use Rattle.signature.specs.Listing.{succeeded}
 use Rattle.signature.proofs.Listings.{no_length_word, too_many_words, known_type, cut_off, constant_not_typed, typed_kind}
-use native.Mathlib.Omega.{arith}
 use Rattle.signature.proofs.list.constant.Goals as goal
+use Rattle.signature.proofs.list.constant.Goals.{then-n-lt1-via-then-n-lt1, then-n-lt1-via-else-n-lt1+then-n-gt-MOST_CONSTANT_WORDS}
+use Rattle.signature.proofs.list.constant.Goals.{then-n-lt1-via-else-n-lt1+else-n-gt-MOST_CONSTANT_WORDS+then-sig-start}
 
 -- what is lent of the list is the constant's words
 lent : (sig : List ℕ) (at : ℕ) → take (at + 1 + get_or sig at 0 - (at + 1)) (drop (at + 1) sig) ≡ take (get_or sig at 0) (drop (at + 1) sig)
@@ -19,41 +19,34 @@ lent sig at =
     let e : at + 1 + get_or sig at 0 - (at + 1) ≡ get_or sig at 0 = omega arith in
     ap (λ (i : ℕ). take i (drop (at + 1) sig)) e
 
-pub overflow_cast-n : goal.overflow_cast-n
-overflow_cast-n c = omega (arith, c.type_inv.sig c.args.at)
-
 pub returns-then-n-lt1 : goal.returns-then-n-lt1
-returns-then-n-lt1 c = λ Σ C. no_length_word Σ c.args.sig.now c.args.at c.requires.inside c.if-n-lt1.true
-
-pub returns-then-n-gt-MOST_CONSTANT_WORDS : goal.returns-then-n-gt-MOST_CONSTANT_WORDS
-returns-then-n-gt-MOST_CONSTANT_WORDS c =
-    λ Σ C. too_many_words Σ c.args.sig.now c.args.at c.requires.inside c.if-n-gt-MOST_CONSTANT_WORDS.true
-
-pub returns-then-sig-start : goal.returns-then-sig-start
-returns-then-sig-start c =
-    λ Σ C. cut_off Σ c.args.sig.now c.args.at c.requires.inside c.if-sig-start.true
-
-pub returns-then-fine : goal.returns-then-fine
-returns-then-fine c =
+returns-then-n-lt1 c =
     let a = c.args in
-    λ Σ C. known_type Σ a.sig.now a.at c.requires.inside c.if-n-lt1.false c.if-n-gt-MOST_CONSTANT_WORDS.false c.if-sig-start.false
-    (ap (λ (l : List ℕ). succeeded (constant-type Σ l)) (sym (lent a.sig.now a.at)) ∙ c.common-fine.ensures Σ c.if-fine.true)
+    let sig = a.constants.sig.now in
+    λ Σ C. elim c.then-n-lt1.branch [
+      | then-n-lt1-via-then-n-lt1 w ↦ no_length_word Σ sig a.at c.requires.inside w.if-n-lt1.true
+      | then-n-lt1-via-else-n-lt1+then-n-gt-MOST_CONSTANT_WORDS w ↦ too_many_words Σ sig a.at c.requires.inside w.if-n-gt-MOST_CONSTANT_WORDS.true
+      | then-n-lt1-via-else-n-lt1+else-n-gt-MOST_CONSTANT_WORDS+then-sig-start w ↦ cut_off Σ sig a.at c.requires.inside w.if-sig-start.true
+    ]
 
-pub returns-in-Refused : goal.returns-in-Refused
-returns-in-Refused c =
-    λ Σ C. constant_not_typed Σ c.args.sig.now c.args.at c.requires.inside c.if-n-lt1.false c.if-n-gt-MOST_CONSTANT_WORDS.false c.if-sig-start.false _
-    c.check_term-typed.result _ _ _ (let s = c.args in
-    subst
-    (λ (l : List ℕ). Judged (typed_term Σ most_words most_nesting l)
-    (length (take (s.at + 1 + get_or s.sig.now s.at 0 - (s.at + 1)) (drop (s.at + 1) s.sig.now)))
-    c.check_term-typed.new.ws c.check_term-typed.result) (lent s.sig.now s.at) (c.check_term-typed.ensures Σ C)) c.in-Refused.is
+pub returns-then-common : goal.returns-then-common
+returns-then-common c =
+    let a = c.args in
+    let sig = a.constants.sig.now in
+    λ Σ C. known_type Σ sig a.at c.requires.inside c.if-n-lt1.false c.if-n-gt-MOST_CONSTANT_WORDS.false c.if-sig-start.false
+    (ap (λ (l : List ℕ). succeeded (constant-type Σ l)) (sym (lent sig a.at)) ∙ c.common.ensures Σ c.if-common.true)
 
-pub returns-in-Typed : goal.returns-in-Typed
-returns-in-Typed c =
-    λ Σ C. typed_kind Σ c.args.sig.now c.args.at c.requires.inside c.if-n-lt1.false c.if-n-gt-MOST_CONSTANT_WORDS.false c.if-sig-start.false _
-    c.check_term-typed.result _ _ _ c.front_is.result (let s = c.args in
-    subst
-    (λ (l : List ℕ). Judged (typed_term Σ most_words most_nesting l)
-    (length (take (s.at + 1 + get_or s.sig.now s.at 0 - (s.at + 1)) (drop (s.at + 1) s.sig.now)))
-    c.check_term-typed.new.ws c.check_term-typed.result) (lent s.sig.now s.at) (c.check_term-typed.ensures Σ C)) c.in-Typed.is
-    (λ A h. c.front_is.ensures A kindPA h refl tt)
+pub returns-then-is_ok : goal.returns-then-is_ok
+returns-then-is_ok c =
+    let a = c.args in
+    let sig = a.constants.sig.now in
+    λ Σ C. typed_kind Σ sig a.at c.requires.inside c.if-n-lt1.false c.if-n-gt-MOST_CONSTANT_WORDS.false c.if-sig-start.false (lent sig a.at)
+    c.check_term.result (c.check_term.ensures Σ C) (sym c.is_ok.ensures.value ∙ c.if-is_ok.true) (λ A h. c.front_is.ensures A kindPA h refl tt)
+
+pub returns-else-is_ok : goal.returns-else-is_ok
+returns-else-is_ok c =
+    let a = c.args in
+    let sig = a.constants.sig.now in
+    λ Σ C. c.if-is_ok.false
+    ∙ constant_not_typed Σ sig a.at c.requires.inside c.if-n-lt1.false c.if-n-gt-MOST_CONSTANT_WORDS.false c.if-sig-start.false (lent sig a.at)
+    c.check_term.result (c.check_term.ensures Σ C) (sym c.is_ok.ensures.value ∙ c.if-is_ok.false)

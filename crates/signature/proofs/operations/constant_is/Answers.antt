@@ -1,52 +1,28 @@
 -- `constant_is` compares a constant's type with words: there is no such constant, or the words that the table points at
 -- decide.
-use Prim.Native.Nat.{◌-◌}
 use native.Mathlib.Omega.{arith}
 use mathlib.Core.Path.{refl}
-use lib.ListN.{get_or}
 use Rattle.words.proofs.Places.{at_end}
-use Rattle.rules.proofs.Atoms.{ConstantAt, constant_placed}
+use Rattle.rules.proofs.Atoms.{constant_placed}
 use Rattle.signature.proofs.Permits.{no_such_constant, compared}
 use Rattle.signature.proofs.operations.constant_is.Goals as goal
 
 pub returns-then-table-i : goal.returns-then-table-i
 returns-then-table-i c = λ Σ A d w g. no_such_constant c.args.i A c.if-table-i.true d
 
-pub overflow_cast-start : goal.overflow_cast-start
-overflow_cast-start c = omega (arith, c.type_inv.table c.args.i)
-
 pub overflow_sub-end : goal.overflow_sub-end
 overflow_sub-end c =
-    let here : ConstantAt c.args.sig.now c.args.table.now c.args.i c.requires.Σ = (constant_placed c.args.i c.if-table-i.false c.requires.declared) in
+    let here = constant_placed c.args.i c.if-table-i.false c.requires.declared in
     omega (arith, here.behind)
-
-pub offset_bounds-sig-start : goal.offset_bounds-sig-start
-offset_bounds-sig-start c =
-    let here : ConstantAt c.args.sig.now c.args.table.now c.args.i c.requires.Σ = (constant_placed c.args.i c.if-table-i.false c.requires.declared) in
-    omega (arith, c.well_formed, at_end here.here)
 
 pub bounds-sig-start : goal.bounds-sig-start
 bounds-sig-start c =
-    let here : ConstantAt c.args.sig.now c.args.table.now c.args.i c.requires.Σ = (constant_placed c.args.i c.if-table-i.false c.requires.declared) in
+    let here = constant_placed c.args.i c.if-table-i.false c.requires.declared in
     omega (arith, here.behind, at_end here.here)
-
-pub overflow_cast-end : goal.overflow_cast-end
-overflow_cast-end c =
-    omega (arith, c.type_inv.sig (get_or c.args.table.now c.args.i 0 - 1))
-
-pub overflow_add-end : goal.overflow_add-end
-overflow_add-end c =
-    let here : ConstantAt c.args.sig.now c.args.table.now c.args.i c.requires.Σ = (constant_placed c.args.i c.if-table-i.false c.requires.declared) in
-    omega (arith, c.well_formed, here.words, at_end here.here)
-
-pub offset_bounds-sig-start-2 : goal.offset_bounds-sig-start-2
-offset_bounds-sig-start-2 c =
-    let here : ConstantAt c.args.sig.now c.args.table.now c.args.i c.requires.Σ = (constant_placed c.args.i c.if-table-i.false c.requires.declared) in
-    omega (arith, c.well_formed, at_end here.here)
 
 pub slice_bounds-same-end : goal.slice_bounds-same-end
 slice_bounds-same-end c =
-    let here : ConstantAt c.args.sig.now c.args.table.now c.args.i c.requires.Σ = (constant_placed c.args.i c.if-table-i.false c.requires.declared) in
+    let here = constant_placed c.args.i c.if-table-i.false c.requires.declared in
     omega (arith, here.words, at_end here.here)
 
 pub returns : goal.returns

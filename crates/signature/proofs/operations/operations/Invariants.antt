@@ -1,6 +1,5 @@
 -- `operations` tests the permits and receipts, by a loop over operations. The invariant: the operations below `i` have
 -- theirs. The measure is the number of operations left.
-use Prim.Native.Nat.{◌-◌, ◌≤◌}
 use mathlib.Core.Path.{◌≡◌}
 use mathlib.Core.Bool.{true}
 use mathlib.Core.List.{List}
@@ -10,7 +9,4 @@ use Rattle.rules.specs.Scope.{Declared}
 use Rattle.signature.proofs.operations.operations.Given as goal
 
 abbrev pub invariant-loop-i : goal.invariant-loop-i
-invariant-loop-i l = (l.i ≤ l.count) × ((Σ : List Term) → Declared l.sig l.table Σ → operations Σ l.i ≡ true)
-
-abbrev pub decreases-loop-i : goal.decreases-loop-i
-decreases-loop-i l = l.count - l.i
+invariant-loop-i l = ((Σ : List Term) → Declared l.constants.sig.now l.constants.table.now Σ → operations Σ l.i ≡ true)

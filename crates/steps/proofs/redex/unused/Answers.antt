@@ -16,37 +16,28 @@ body_is end h e = record { plain = h.plain; words = part_is end h e }
 
 -- ---- the needs
 
-pub skip-end-requires : goal.skip-end-requires
-skip-end-requires c = let p = c.requires in record { term = p.term; here = p.here }
-
 pub offset_bounds-words-at : goal.offset_bounds-words-at
-offset_bounds-words-at c = let p = c.requires in let e = c.skip-end.ensures p.term p.here in let l = at_end p.here in omega arith
-
-pub slice_bounds-body-count : goal.slice_bounds-body-count
-slice_bounds-body-count c = let p = c.requires in let e = c.skip-end.ensures p.term p.here in let l = at_end p.here in omega arith
-
-pub slice_bounds-body-start : goal.slice_bounds-body-start
-slice_bounds-body-start c = let p = c.requires in let e = c.skip-end.ensures p.term p.here in let l = at_end p.here in omega arith
+offset_bounds-words-at c = let p = c.requires in let e = c.skip.ensures p.term p.here in let l = at_end p.here in omega arith
 
 pub slice_bounds-body-end : goal.slice_bounds-body-end
-slice_bounds-body-end c = let p = c.requires in let e = c.skip-end.ensures p.term p.here in let l = at_end p.here in omega arith
+slice_bounds-body-end c = let p = c.requires in let e = c.skip.ensures p.term p.here in let l = at_end p.here in omega arith
 
 pub shift_into-from_0-requires : goal.shift_into-from_0-requires
 shift_into-from_0-requires c =
     let p = c.requires in
-    let b = body_is _ p.here (c.skip-end.ensures p.term p.here) in
+    let b = body_is _ p.here (c.skip.ensures p.term p.here) in
     let z = size_is _ _ b in
     record { term = p.term; whole = b; fits = omega (arith, p.room); deep = omega (arith, p.few); near = omega arith }
 
 pub shift_into-from_1-requires : goal.shift_into-from_1-requires
 shift_into-from_1-requires c =
     let p = c.requires in
-    let b = body_is _ p.here (c.skip-end.ensures p.term p.here) in
+    let b = body_is _ p.here (c.skip.ensures p.term p.here) in
     let z = size_is _ _ b in
     record { term = p.term; whole = b; fits = omega (arith, p.room, c.shift_into-from_0.auto); deep = omega (arith, p.few); near = omega arith }
 
 pub returns : goal.returns
 returns c =
     λ b h.
-    let i = body_is _ h (c.skip-end.ensures b h) in
+    let i = body_is _ h (c.skip.ensures b h) in
     same_counts b _ _ (c.shift_into-from_0.ensures b i).free_is (c.shift_into-from_1.ensures b i).free_is

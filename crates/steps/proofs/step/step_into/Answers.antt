@@ -1,16 +1,18 @@
 -- The result of a step is written in three parts: the words before the node, the filled body, the words behind it.
 use Prim.Native.Nat.{ℕ, ◌-◌, ◌≤◌}
-use mathlib.Core.Path.{◌≡◌}
+use mathlib.Core.Path.{◌≡◌, sym, subst}
 use mathlib.Core.List.{List}
 use mathlib.Core.Option.{some}
+use Rattle.std.specs.Prelude.{Some, None}
+use Rattle.std.specs.Prelude.{Option as Maybe}
+use Rattle.std.proofs.Common.{rules}
 use native.Mathlib.Omega.{arith}
 use lib.ListN.{length, take, drop}
 use Rattle.logic.specs.Term.{Op, Term, node}
 use Rattle.words.specs.Place.{At, Is}
 use Rattle.words.proofs.Places.{at_end, part_is, size_is}
-use Rattle.reduction.specs.Steps.{contracted}
+use Rattle.reduction.specs.Steps.{contracted, next_step}
 use Rattle.steps.specs.declared.step.Filling.{Filling}
-use Rattle.steps.specs.declared.step.Stepped.TheVariants.{Done, Over}
 use Rattle.steps.specs.Step.{Steppable, FillingOf, SteppedTo}
 use Rattle.steps.proofs.Sites.{TakenAt, taken_at}
 use Rattle.steps.proofs.StepWords.{the_step, node_at, StepSizes, step_sizes, step_written, step_over, step_formed, filled_from, filled_over}
@@ -64,8 +66,8 @@ pub copy-requires : goal.copy-requires
 copy-requires c = let w = within c.requires in let z = sizes c.requires in
     (omega (arith, w.behind, z.old, c.requires.count), omega (arith, w.room, z.old, c.requires.count))
 
-pub offset_bounds-words-from : goal.offset_bounds-words-from
-offset_bounds-words-from c = let f = filling c.requires _ c.filling_at-f.ensures in let e = at_end f.filler_at in omega arith
+pub offset_bounds-words-f : goal.offset_bounds-words-f
+offset_bounds-words-f c = let f = filling c.requires _ c.filling_at-f.ensures in let e = at_end f.filler_at in omega arith
 
 pub slice_bounds-fill_into-count : goal.slice_bounds-fill_into-count
 slice_bounds-fill_into-count c = let f = filling c.requires _ c.filling_at-f.ensures in omega (arith, f.filler_end)
@@ -76,8 +78,8 @@ slice_bounds-fill_into-start c = let f = filling c.requires _ c.filling_at-f.ens
 pub slice_bounds-fill_into-end : goal.slice_bounds-fill_into-end
 slice_bounds-fill_into-end c = let f = filling c.requires _ c.filling_at-f.ensures in let e = at_end f.filler_at in omega (arith, f.filler_end)
 
-pub fill_into-filled-requires : goal.fill_into-filled-requires
-fill_into-filled-requires c =
+pub fill_into-requires : goal.fill_into-requires
+fill_into-requires c =
     let p = c.requires in
     let f = filling p _ c.filling_at-f.ensures in
     let w = within p in
@@ -93,12 +95,14 @@ fill_into-filled-requires c =
       },
     )
 
-pub returns-in_default : goal.returns-in_default
-returns-in_default c =
+pub returns-in_err-end : goal.returns-in_err-end
+returns-in_err-end c =
     let p = c.requires in
     let f = filling p _ c.filling_at-f.ensures in
-    let o = filled_over f.filled (c.fill_into-filled.ensures f.body f.filler f.body_at (filler f)) c.in_default.is in
-    the_step (λ u. SteppedTo u _ _ Over) p.here (step p).step (step_over (omega (arith, o, (sizes p).new, c.copy.auto.out)))
+    let o = filled_over f.filled (c.fill_into.ensures f.body f.filler f.body_at (filler f)) c.in_err-end.was in
+    let r : c.from_residual.result ≡ None = search rules in
+    subst (λ (r : Maybe ℕ). (t u : Term) → At c.args.words.now 0 t → next_step t ≡ some u → SteppedTo u c.args.out.now c.fill_into.new.out r) (sym r)
+    (the_step (λ u. SteppedTo u _ _ None) p.here (step p).step (step_over (omega (arith, o, (sizes p).new, c.copy.auto.out))))
 
 pub overflow_sub-rest : goal.overflow_sub-rest
 overflow_sub-rest c = let r = rest c.requires (filling c.requires _ c.filling_at-f.ensures) in omega (arith, r.end)
@@ -106,45 +110,45 @@ overflow_sub-rest c = let r = rest c.requires (filling c.requires _ c.filling_at
 pub overflow_sub-out : goal.overflow_sub-out
 overflow_sub-out c =
     let f = filling c.requires _ c.filling_at-f.ensures in
-    let d = filled_from f.filled (c.fill_into-filled.ensures f.body f.filler f.body_at (filler f)) c.in-Done.is in
-    omega (arith, d.fits, d.end_is, c.fill_into-filled.auto.out)
+    let d = filled_from f.filled (c.fill_into.ensures f.body f.filler f.body_at (filler f)) c.in_ok-end.was in
+    omega (arith, d.fits, d.end_is, c.fill_into.auto.out)
 
 pub returns-then-out-end : goal.returns-then-out-end
 returns-then-out-end c =
     let p = c.requires in
     let f = filling p _ c.filling_at-f.ensures in
-    let d = filled_from f.filled (c.fill_into-filled.ensures f.body f.filler f.body_at (filler f)) c.in-Done.is in
+    let d = filled_from f.filled (c.fill_into.ensures f.body f.filler f.body_at (filler f)) c.in_ok-end.was in
     let r = rest p f in
-    the_step (λ u. SteppedTo u _ _ Over) p.here (step p).step
-    (step_over (omega (arith, c.if-out-end.true, d.end_is, r.count, c.fill_into-filled.auto.out, c.copy.auto.out, (sizes p).new)))
+    the_step (λ u. SteppedTo u _ _ None) p.here (step p).step
+    (step_over (omega (arith, c.if-out-end.true, d.end_is, r.count, c.fill_into.auto.out, c.copy.auto.out, (sizes p).new)))
 
 pub copy-requires-2 : goal.copy-requires-2
 copy-requires-2 c =
     let p = c.requires in
     let f = filling p _ c.filling_at-f.ensures in
-    let d = filled_from f.filled (c.fill_into-filled.ensures f.body f.filler f.body_at (filler f)) c.in-Done.is in
+    let d = filled_from f.filled (c.fill_into.ensures f.body f.filler f.body_at (filler f)) c.in_ok-end.was in
     let w = within p in
     let r = rest p f in
-    (omega (arith, w.behind, r.end), omega (arith, c.if-out-end.false, d.fits, d.end_is, c.fill_into-filled.auto.out))
+    (omega (arith, w.behind, r.end), omega (arith, c.if-out-end.false, d.fits, d.end_is, c.fill_into.auto.out))
 
 pub overflow_add-result : goal.overflow_add-result
 overflow_add-result c =
     let p = c.requires in
     let f = filling p _ c.filling_at-f.ensures in
-    let d = filled_from f.filled (c.fill_into-filled.ensures f.body f.filler f.body_at (filler f)) c.in-Done.is in
-    omega (arith, c.if-out-end.false, d.end_is, c.fill_into-filled.auto.out, c.copy.auto.out, c.well_formed)
+    let d = filled_from f.filled (c.fill_into.ensures f.body f.filler f.body_at (filler f)) c.in_ok-end.was in
+    omega (arith, c.if-out-end.false, d.end_is, c.fill_into.auto.out, c.copy.auto.out, c.well_formed)
 
 pub returns : goal.returns
 returns c =
     let p = c.requires in
     let x = (step p).site in
     let f = filling p _ c.filling_at-f.ensures in
-    let d = filled_from f.filled (c.fill_into-filled.ensures f.body f.filler f.body_at (filler f)) c.in-Done.is in
+    let d = filled_from f.filled (c.fill_into.ensures f.body f.filler f.body_at (filler f)) c.in_ok-end.was in
     let r = rest p f in
     let z = sizes p in
-    let o = c.fill_into-filled.auto.out in
-    the_step (λ u. SteppedTo u _ _ (Done _)) p.here (step p).step
+    let o = c.fill_into.auto.out in
+    the_step (λ u. SteppedTo u _ _ (Some _)) p.here (step p).step
     (step_formed (omega (arith, c.if-out-end.false, d.end_is, d.fits, r.count, o, c.copy.auto.out, z.new))
     (omega (arith, d.end_is, r.count, z.new))
-    (step_written p.here x c.args.out.now c.copy.new.out c.fill_into-filled.new.out _ _ _ _ c.copy.ensures d.words
+    (step_written p.here x c.args.out.now c.copy.new.out c.fill_into.new.out _ _ _ _ c.copy.ensures d.words
     c.copy-2.ensures d.end_is f.end r.count))

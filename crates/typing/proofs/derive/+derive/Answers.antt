@@ -1,542 +1,212 @@
 -- `derive` gives the type of a term, by recursion on its children: a return for each kind of leaf, for a Sign, and
 -- for each of the four ways that the rule of a node ends. The measure is the nesting left.
+use Prim.Native.Nat.{ℕ, ◌+◌, ◌-◌}
 use native.Mathlib.Omega.{arith}
-use Prim.Native.Nat.{◌+◌, ◌-◌, ◌≤◌, ◌<◌}
-use mathlib.Core.Path.{◌≡◌, ◌∙◌}
-use mathlib.Core.List.{[]}
-use lib.ListN.{length}
-use Rattle.logic.specs.Term.{size}
-use Rattle.logic.specs.Infer.{infer}
+use mathlib.Core.Path.{sym, ap, ◌∙◌}
+use mathlib.Core.List.{List, []}
+use borrow.Author.Rules.{rules}
+use denote.Enum.Bare.{same_true}
+use Rattle.logic.specs.contracts.word.Class.{the_type}
+use Rattle.logic.specs.Answer.{answer}
+use Rattle.logic.specs.Term.{Op, Term, node}
+use Rattle.logic.proofs.Answers.{handed_on}
 use Rattle.logic.proofs.Searches.{depth_pos}
-use Rattle.words.proofs.Places.{at_kind, at_end, at_left}
-use Rattle.typing.specs.Derive.{SubjectAt, Derived}
-use Rattle.rules.specs.declared.derivation.Derivation.TheVariants.{Refused}
-use Rattle.typing.proofs.Tails.{whole_of, rest_length, whole_length}
-use Rattle.typing.proofs.Derives.{Derives, carried, between_children, inside_node, signed_in, sign_derived}
-use Rattle.typing.proofs.Derives.{sign_refused, sign_ready}
-use Rattle.typing.proofs.Derives.{first_ready, two_deep, second_ready, level, atom_derived, variable_derived, first_refusal, test_refusal}
-use Rattle.typing.proofs.Derives.{second_refusal, formable, forms_here, node_derived, NodeSubject, SignSubject}
-use Rattle.logic.proofs.Words.{size_pos}
-use Rattle.logic.specs.Kind.{kind_node}
-use Rattle.moves.proofs.Cases.{node_case, sign_case}
+use Rattle.words.proofs.Places.{at_left, at_within}
+use Rattle.moves.proofs.Cases.{NotLeaf}
+use Rattle.typing.specs.Derive.{SubjectAt}
+use Rattle.typing.proofs.Tails.{rest_length}
+use Rattle.typing.proofs.Derives.{Derives, carried, atom_derived, variable_derived, sign_refused, sign_subject, sign_ready, signed_in, sign_derived}
+use Rattle.typing.proofs.Derives.{NodeSubject, node_subject, node_derives, first_ready, two_deep, first_typed, first_refusal, test_refusal, AtSecond}
+use Rattle.typing.proofs.Derives.{at_second, level, keep_fits, second_ready, second_refusal, formable, forms_here, node_derived}
 use Rattle.typing.proofs.derive.+derive.Goals as goal
-use Rattle.typing.proofs.derive.+derive.Goals.{then-kind-eq-ATOM, else-kind-eq-ATOM}
+use Rattle.typing.proofs.derive.+derive.Goals.{In_default, Joined-eq, In_ok-entered-in_default, then-eq, else-eq}
 
+-- ---- what several goals need
+-- the class is of no leaf and no Sign
+rest : (t : ℕ) (c : In_default t) → NotLeaf c.class_of.result
+rest t c = record { no_atom = c.in_default.not-Atom; no_variable = c.in_default.not-Variable; no_sign = c.in_default.not-Sign }
+
+-- a node stands ready
+the_node : (t : ℕ) (c : In_default t)
+    → NodeSubject c.args.constants.sig.now c.args.constants.table.now c.args.proof.now c.args.ws.now c.args.floor c.args.used c.args.at c.args.left
+    c.requires.Σ c.requires.Γ
+the_node t c = node_subject c.class_of.ensures (rest t c) c.requires.ready
+
+-- its first child's type is derived
+first : (t : ℕ) (c : Joined-eq t) → Derives c.args.constants.sig.now c.args.constants.table.now c.args.proof.now c.args.ws.now c.args.floor c.args.used
+    (c.args.at + 1) (c.args.left - 1) c.if-eq.ws c.if-eq.typed
+first t c = elim c.if-eq.branch [
+  | then-eq w ↦ carried w.ws-is w.typed-is (atom_derived c.class_of-in_default.ensures (same_true the_type (search rules) _ _ (sym w.if-eq.ensures))
+      w.atom-typed.auto.ws (omega (arith, c.requires.room)) w.atom-typed.ensures)
+  | else-eq w ↦ carried w.ws-is w.typed-is w.derive-typed.ensures
+]
+
+-- and the test on it passed
+second : (t : ℕ) (c : In_ok-entered-in_default t) {Σ Γ : List Term} {o : Op} {a b : Term}
+    → Derives c.args.constants.sig.now c.args.constants.table.now c.args.proof.now c.args.ws.now c.args.floor c.args.used (c.args.at + 1) (c.args.left - 1)
+    c.if-eq.ws c.if-eq.typed
+    → SubjectAt c.args.constants.sig.now c.args.constants.table.now c.args.proof.now c.args.ws.now c.args.floor c.args.used c.args.at c.args.left
+    Σ Γ (node o a b)
+    → AtSecond c.args.constants.sig.now c.args.constants.table.now c.args.proof.now c.args.ws.now c.if-eq.ws c.enter.new.ws
+    c.args.floor c.args.used c.args.at c.args.left
+    c.in_ok-first-in_default.first.end c.in_ok-first-in_default.first.words c.in_ok-entered-in_default.entered.keep c.in_ok-entered-in_default.entered.used
+    Σ Γ o a b
+second t c d R =
+    at_second _ R d _ c.enter.ensures (ap answer c.in_ok-first-in_default.was) (ap answer c.in_ok-entered-in_default.was) c.requires.below
+    (c.enter.auto.ws ∙ c.if-eq.auto.ws) c.requires.room
+
+-- ---- the needs
 pub offset_bounds-proof-at : goal.offset_bounds-proof-at
-offset_bounds-proof-at t c =
-    let place_within : c.args.at < length c.args.proof.now = let a = at_end c.requires.ready.here in let b = size_pos c.requires.term in omega arith in
-    omega arith
+offset_bounds-proof-at t c = let w = at_within c.requires.ready.here in omega arith
 
 pub bounds-proof-at : goal.bounds-proof-at
-bounds-proof-at t c =
-    let place_within : c.args.at < length c.args.proof.now = let a = at_end c.requires.ready.here in let b = size_pos c.requires.term in omega arith in
-    omega arith
-
-pub atom-requires : goal.atom-requires
-atom-requires t c =
-    let place_within : c.args.at < length c.args.proof.now = let a = at_end c.requires.ready.here in let b = size_pos c.requires.term in omega arith in
-    let p = c.requires in
-    record { Σ = p.Σ; declared = p.ready.declared; room = omega (arith, p.room); place = omega (arith, p.short, place_within) }
-
-pub returns-then-k-eq-ATOM : goal.returns-then-k-eq-ATOM
-returns-then-k-eq-ATOM t c =
-    λ Σ Γ u R. atom_derived c.kind-k.result _ c.atom.result c.atom.auto.ws
-    (omega (arith, c.requires.room)) u c.if-k-eq-ATOM.true (c.kind-k.ensures ∙ at_kind R.here) R
-    c.atom.ensures
-
-pub variable-requires : goal.variable-requires
-variable-requires t c =
-    let place_within : c.args.at < length c.args.proof.now = let a = at_end c.requires.ready.here in let b = size_pos c.requires.term in omega arith in
-    let p = c.requires in
-    record {
-      Γ = p.Γ;
-      binders = p.ready.binders;
-      few = omega (arith, p.ready.few);
-      number = omega (arith, c.payload_of.ensures);
-      below = p.below;
-      room = omega (arith, p.room);
-      place = omega (arith, p.short, place_within);
-    }
-
-pub returns-then-k-eq-VARIABLE : goal.returns-then-k-eq-VARIABLE
-returns-then-k-eq-VARIABLE t c =
-    λ Σ Γ u R. variable_derived c.kind-k.result _ c.variable.result c.variable.auto.ws
-    (omega (arith, c.requires.room)) u c.if-k-eq-VARIABLE.true (c.kind-k.ensures ∙ at_kind R.here) R
-    c.payload_of.result c.payload_of.ensures c.variable.ensures
-
-pub overflow_add-at : goal.overflow_add-at
-overflow_add-at t c =
-    let place_within : c.args.at < length c.args.proof.now = let a = at_end c.requires.ready.here in let b = size_pos c.requires.term in omega arith in
-    omega arith
+bounds-proof-at t c = at_within c.requires.ready.here
 
 pub overflow_sub-left : goal.overflow_sub-left
-overflow_sub-left t c =
-    let deep : 0 < c.args.left = let a = c.requires.ready.deep in let b = depth_pos c.requires.term in omega arith in
-    omega arith
+overflow_sub-left t c = let a = c.requires.ready.deep in let b = depth_pos c.requires.term in omega arith
 
-pub derive-inner-requires : goal.derive-inner-requires
-derive-inner-requires t c =
-    let sign_at : (SignSubject c.args.sig.now c.args.table.now c.args.proof.now c.args.ws.now c.args.floor c.args.used c.args.at c.args.left
-    c.requires.Σ c.requires.Γ) = let p = c.requires in
-    sign_case (λ u. (SubjectAt c.args.sig.now c.args.table.now c.args.proof.now c.args.ws.now c.args.floor c.args.used c.args.at
-    c.args.left p.Σ p.Γ u) → (SignSubject c.args.sig.now c.args.table.now c.args.proof.now c.args.ws.now c.args.floor c.args.used c.args.at
-    c.args.left c.requires.Σ c.requires.Γ)) ((λ u h. c.kind-k.ensures ∙ at_kind h)) c.if-k-eq-SIGN.true
-    (λ n q h R. record { n = n; q = q; ready_sign = R }) p.term p.ready.here p.ready in
-    let deep : 0 < c.args.left = let a = c.requires.ready.deep in let b = depth_pos c.requires.term in omega arith in
-    let p = c.requires in (
-      omega arith,
-      record
-          { Σ = p.Σ; Γ = []; term = sign_at.q; ready = sign_ready sign_at.ready_sign; short = p.short; below = omega arith; room = omega (arith, p.room) },
-    )
-
-pub returns-in_default : goal.returns-in_default
-returns-in_default t c =
-    λ Σ Γ u R. sign_refused c.kind-k.result _ c.derive-inner.result c.derive-inner.auto.ws
-    (omega (arith, c.requires.room)) u _ _ c.if-k-eq-SIGN.true (c.kind-k.ensures ∙ at_kind R.here) R c.derive-inner.ensures
-    c.in_default.is
+pub derive-requires : goal.derive-requires
+derive-requires t c =
+    let p = c.requires in
+    let S = sign_subject c.class_of.ensures c.in-Sign.is p.ready in
+    let a = p.ready.deep in
+    let b = depth_pos p.term in
+    (omega arith, record { Σ = p.Σ; Γ = []; term = S.q; ready = sign_ready S.ready; short = p.short; below = omega arith; room = omega (arith, p.room) })
 
 pub sign-requires : goal.sign-requires
 sign-requires t c =
     let p = c.requires in
-    let S = signed_in p.term c.kind-k.result _ c.derive-inner.result _ _ c.if-k-eq-SIGN.true
-    (c.kind-k.ensures ∙ at_kind p.ready.here) p.ready c.derive-inner.ensures c.in-Typed.is in
-    record { a = S.a; q = S.q; s = S.s; signs = S.signs; short = p.short; room = omega (arith, p.room, c.derive-inner.auto.ws) }
-
-pub shape_of-ws-then-k-eq-SIGN : goal.shape_of-ws-then-k-eq-SIGN
-shape_of-ws-then-k-eq-SIGN t c =
-    c.sign.auto.ws ∙ c.derive-inner.auto.ws
-
-pub returns-then-k-eq-SIGN : goal.returns-then-k-eq-SIGN
-returns-then-k-eq-SIGN t c =
-    λ Σ Γ u R. let S = signed_in u c.kind-k.result _ c.derive-inner.result _ _ c.if-k-eq-SIGN.true (c.kind-k.ensures ∙ at_kind R.here)
-    R c.derive-inner.ensures c.in-Typed.is in
-    sign_derived S _ c.sign.result c.sign.auto.ws
-    (omega (arith, c.requires.room, c.derive-inner.auto.ws)) (c.sign.ensures S.a S.q S.s S.signs)
+    let S = signed_in c.class_of.ensures c.in-Sign.is p.ready c.derive.ensures (ap answer c.in_ok-inner-in-Sign.was) in
+    record { a = S.a; q = S.q; s = S.s; signs = S.signs; short = p.short; room = omega (arith, p.room, c.derive.auto.ws) }
 
 pub overflow_add-head : goal.overflow_add-head
-overflow_add-head t c =
-    let place_within : c.args.at < length c.args.proof.now = let a = at_end c.requires.ready.here in let b = size_pos c.requires.term in omega arith in
-    omega arith
+overflow_add-head t c = let w = at_within c.requires.ready.here in omega arith
 
-pub offset_bounds-proof-at-2 : goal.offset_bounds-proof-at-2
-offset_bounds-proof-at-2 t c =
-    let node-kind : kind_node ≤ c.kind-k.result = omega (arith, c.if-k-eq-ATOM.false, c.if-k-eq-VARIABLE.false, c.if-k-eq-SIGN.false) in
-    let node_at : (NodeSubject c.args.sig.now c.args.table.now c.args.proof.now c.args.ws.now c.args.floor c.args.used c.args.at c.args.left
-    c.requires.Σ c.requires.Γ) = let p = c.requires in
-    node_case (λ u. (SubjectAt c.args.sig.now c.args.table.now c.args.proof.now c.args.ws.now c.args.floor c.args.used c.args.at
-    c.args.left p.Σ p.Γ u) → (NodeSubject c.args.sig.now c.args.table.now c.args.proof.now c.args.ws.now c.args.floor c.args.used c.args.at
-    c.args.left c.requires.Σ c.requires.Γ)) ((λ u h. c.kind-k.ensures ∙ at_kind h)) node-kind
-    (λ o a b e h R. record { o = o; a = a; b = b; ready_node = R }) p.term p.ready.here p.ready in
-    let child-within : c.args.at + 1 < length c.args.proof.now = let a = at_end (at_left node_at.ready_node.here) in let b = size_pos node_at.a in
-    omega arith in
-    omega arith
+pub offset_bounds-proof-at-in_default : goal.offset_bounds-proof-at-in_default
+offset_bounds-proof-at-in_default t c =
+    let N = the_node t (goal.at-offset_bounds-proof-at-in_default t c).In_default in let w = at_within (at_left N.ready.here) in omega arith
 
-pub bounds-proof-at-2 : goal.bounds-proof-at-2
-bounds-proof-at-2 t c =
-    let node-kind : kind_node ≤ c.kind-k.result = omega (arith, c.if-k-eq-ATOM.false, c.if-k-eq-VARIABLE.false, c.if-k-eq-SIGN.false) in
-    let node_at : (NodeSubject c.args.sig.now c.args.table.now c.args.proof.now c.args.ws.now c.args.floor c.args.used c.args.at c.args.left
-    c.requires.Σ c.requires.Γ) = let p = c.requires in
-    node_case (λ u. (SubjectAt c.args.sig.now c.args.table.now c.args.proof.now c.args.ws.now c.args.floor c.args.used c.args.at
-    c.args.left p.Σ p.Γ u) → (NodeSubject c.args.sig.now c.args.table.now c.args.proof.now c.args.ws.now c.args.floor c.args.used c.args.at
-    c.args.left c.requires.Σ c.requires.Γ)) ((λ u h. c.kind-k.ensures ∙ at_kind h)) node-kind
-    (λ o a b e h R. record { o = o; a = a; b = b; ready_node = R }) p.term p.ready.here p.ready in
-    let child-within : c.args.at + 1 < length c.args.proof.now = let a = at_end (at_left node_at.ready_node.here) in let b = size_pos node_at.a in
-    omega arith in
-    child-within
+pub bounds-proof-at-in_default : goal.bounds-proof-at-in_default
+bounds-proof-at-in_default t c = let N = the_node t (goal.at-bounds-proof-at-in_default t c).In_default in at_within (at_left N.ready.here)
 
-pub overflow_add-at-then-kind-eq-ATOM : goal.overflow_add-at-then-kind-eq-ATOM
-overflow_add-at-then-kind-eq-ATOM t c =
-    let place_within : c.args.at < length c.args.proof.now = let a = at_end c.requires.ready.here in let b = size_pos c.requires.term in omega arith in
-    omega arith
+pub overflow_add-at-else-eq : goal.overflow_add-at-else-eq
+overflow_add-at-else-eq t c = let w = at_within c.requires.ready.here in omega arith
 
-pub atom-first-requires : goal.atom-first-requires
-atom-first-requires t c =
-    let node-kind : kind_node ≤ c.kind-k.result = omega (arith, c.if-k-eq-ATOM.false, c.if-k-eq-VARIABLE.false, c.if-k-eq-SIGN.false) in
-    let node_at : (NodeSubject c.args.sig.now c.args.table.now c.args.proof.now c.args.ws.now c.args.floor c.args.used c.args.at c.args.left
-    c.requires.Σ c.requires.Γ) = let p = c.requires in
-    node_case (λ u. (SubjectAt c.args.sig.now c.args.table.now c.args.proof.now c.args.ws.now c.args.floor c.args.used c.args.at
-    c.args.left p.Σ p.Γ u) → (NodeSubject c.args.sig.now c.args.table.now c.args.proof.now c.args.ws.now c.args.floor c.args.used c.args.at
-    c.args.left c.requires.Σ c.requires.Γ)) ((λ u h. c.kind-k.ensures ∙ at_kind h)) node-kind
-    (λ o a b e h R. record { o = o; a = a; b = b; ready_node = R }) p.term p.ready.here p.ready in
-    let child-within : c.args.at + 1 < length c.args.proof.now = let a = at_end (at_left node_at.ready_node.here) in let b = size_pos node_at.a in
-    omega arith in
+pub overflow_sub-left-else-eq : goal.overflow_sub-left-else-eq
+overflow_sub-left-else-eq t c = let a = c.requires.ready.deep in let b = depth_pos c.requires.term in omega arith
+
+pub derive-typed-requires : goal.derive-typed-requires
+derive-typed-requires t c =
     let p = c.requires in
-    record { Σ = p.Σ; declared = p.ready.declared; room = omega (arith, p.room); place = omega (arith, p.short, child-within) }
+    let N = the_node t (goal.at-derive-typed-requires t c).In_default in
+    let d = two_deep N.ready in
+    (omega arith, record { Σ = p.Σ; Γ = p.Γ; term = N.a; ready = first_ready N.ready; short = p.short; below = p.below; room = omega (arith, p.room) })
 
-pub overflow_add-at-else-kind-eq-ATOM : goal.overflow_add-at-else-kind-eq-ATOM
-overflow_add-at-else-kind-eq-ATOM t c =
-    let place_within : c.args.at < length c.args.proof.now = let a = at_end c.requires.ready.here in let b = size_pos c.requires.term in omega arith in
-    omega arith
-
-pub overflow_sub-left-else-kind-eq-ATOM : goal.overflow_sub-left-else-kind-eq-ATOM
-overflow_sub-left-else-kind-eq-ATOM t c =
-    let deep : 0 < c.args.left = let a = c.requires.ready.deep in let b = depth_pos c.requires.term in omega arith in
-    omega arith
-
-pub derive-first-requires : goal.derive-first-requires
-derive-first-requires t c =
-    let node-kind : kind_node ≤ c.kind-k.result = omega (arith, c.if-k-eq-ATOM.false, c.if-k-eq-VARIABLE.false, c.if-k-eq-SIGN.false) in
-    let node_at : (NodeSubject c.args.sig.now c.args.table.now c.args.proof.now c.args.ws.now c.args.floor c.args.used c.args.at c.args.left
-    c.requires.Σ c.requires.Γ) = let p = c.requires in
-    node_case (λ u. (SubjectAt c.args.sig.now c.args.table.now c.args.proof.now c.args.ws.now c.args.floor c.args.used c.args.at
-    c.args.left p.Σ p.Γ u) → (NodeSubject c.args.sig.now c.args.table.now c.args.proof.now c.args.ws.now c.args.floor c.args.used c.args.at
-    c.args.left c.requires.Σ c.requires.Γ)) ((λ u h. c.kind-k.ensures ∙ at_kind h)) node-kind
-    (λ o a b e h R. record { o = o; a = a; b = b; ready_node = R }) p.term p.ready.here p.ready in
-    let deep : 0 < c.args.left = let a = c.requires.ready.deep in let b = depth_pos c.requires.term in omega arith in
-    let p = c.requires in (
-      omega arith,
-      record
-          { Σ = p.Σ; Γ = p.Γ; term = node_at.a; ready = first_ready node_at.ready_node; short = p.short; below = p.below; room = omega (arith, p.room) },
-    )
-
-pub shape_of-ws-in_default-first : goal.shape_of-ws-in_default-first
-shape_of-ws-in_default-first t c =
-    let first-length : length c.if-kind-eq-ATOM.ws ≡ length c.args.ws.now = c.if-kind-eq-ATOM.auto.ws in
-    first-length
-
-pub returns-in_default-first : goal.returns-in_default-first
-returns-in_default-first t c =
-    let node-kind : kind_node ≤ c.kind-k.result = omega (arith, c.if-k-eq-ATOM.false, c.if-k-eq-VARIABLE.false, c.if-k-eq-SIGN.false) in
-    let first-derives : (let a = c.args in Derives a.sig.now a.table.now a.proof.now a.ws.now a.floor a.used (a.at + 1) (a.left - 1)
-    c.if-kind-eq-ATOM.ws c.if-kind-eq-ATOM.first) = elim c.if-kind-eq-ATOM.branch [
-      | then-kind-eq-ATOM w ↦ carried w.ws-is w.first-is
-          (λ Σ Γ u R. atom_derived c.kind.result _ w.atom-first.result w.atom-first.auto.ws (omega (arith, c.requires.room)) u
-          w.if-kind-eq-ATOM.true (c.kind.ensures ∙ at_kind R.here) R w.atom-first.ensures)
-      | else-kind-eq-ATOM w ↦ carried w.ws-is w.first-is w.derive-first.ensures
-    ] in
-    λ Σ Γ u R. node_case (λ u. (SubjectAt c.args.sig.now c.args.table.now c.args.proof.now c.args.ws.now c.args.floor c.args.used c.args.at
-    c.args.left Σ Γ u) → (Derived (infer Σ Γ c.args.at u) (c.args.at + size u) c.args.used c.args.ws.now c.if-kind-eq-ATOM.ws c.if-kind-eq-ATOM.first))
-    ((λ u h. c.kind-k.ensures ∙ at_kind h)) node-kind (λ o a b e h R. first_refusal _ c.if-kind-eq-ATOM.first _ _ R first-derives
-    c.in_default-first.is) u R.here R
-
-pub enter-entered-requires : goal.enter-entered-requires
-enter-entered-requires t c =
-    let node-kind : kind_node ≤ c.kind-k.result = omega (arith, c.if-k-eq-ATOM.false, c.if-k-eq-VARIABLE.false, c.if-k-eq-SIGN.false) in
-    let node_at : (NodeSubject c.args.sig.now c.args.table.now c.args.proof.now c.args.ws.now c.args.floor c.args.used c.args.at c.args.left
-    c.requires.Σ c.requires.Γ) = let p = c.requires in
-    node_case (λ u. (SubjectAt c.args.sig.now c.args.table.now c.args.proof.now c.args.ws.now c.args.floor c.args.used c.args.at
-    c.args.left p.Σ p.Γ u) → (NodeSubject c.args.sig.now c.args.table.now c.args.proof.now c.args.ws.now c.args.floor c.args.used c.args.at
-    c.args.left c.requires.Σ c.requires.Γ)) ((λ u h. c.kind-k.ensures ∙ at_kind h)) node-kind
-    (λ o a b e h R. record { o = o; a = a; b = b; ready_node = R }) p.term p.ready.here p.ready in
-    let first-derives : (let a = c.args in Derives a.sig.now a.table.now a.proof.now a.ws.now a.floor a.used (a.at + 1) (a.left - 1)
-    c.if-kind-eq-ATOM.ws c.if-kind-eq-ATOM.first) = elim c.if-kind-eq-ATOM.branch [
-      | then-kind-eq-ATOM w ↦ carried w.ws-is w.first-is
-          (λ Σ Γ u R. atom_derived c.kind.result _ w.atom-first.result w.atom-first.auto.ws (omega (arith, c.requires.room)) u
-          w.if-kind-eq-ATOM.true (c.kind.ensures ∙ at_kind R.here) R w.atom-first.ensures)
-      | else-kind-eq-ATOM w ↦ carried w.ws-is w.first-is w.derive-first.ensures
-    ] in
-    let first-length : length c.if-kind-eq-ATOM.ws ≡ length c.args.ws.now = c.if-kind-eq-ATOM.auto.ws in
+pub enter-requires : goal.enter-requires
+enter-requires t c =
     let p = c.requires in
-    let B = between_children node_at.ready_node _ c.if-kind-eq-ATOM.first _ _ first-derives c.in-Typed-first.is in
-    let d = two_deep node_at.ready_node in
+    let N = the_node t (goal.at-enter-requires t c).In_default in
+    let B = first_typed _ N.ready (first t (goal.at-enter-requires t c).Joined-eq) _ (ap answer c.in_ok-first-in_default.was) in
     record {
-      o = node_at.o;
-      a = node_at.a;
+      o = N.o;
+      a = N.a;
       A = B.type;
       enters = B.enters;
       small = omega (arith, B.enters.type_words, B.small);
       short = p.short;
-      room = omega (arith, p.room, d, first-length);
+      room = omega (arith, p.room, two_deep N.ready, c.if-eq.auto.ws);
     }
 
-pub offset_bounds-ws-keep : goal.offset_bounds-ws-keep
-offset_bounds-ws-keep t c =
-    let node-kind : kind_node ≤ c.kind-k.result = omega (arith, c.if-k-eq-ATOM.false, c.if-k-eq-VARIABLE.false, c.if-k-eq-SIGN.false) in
-    let node_at : (NodeSubject c.args.sig.now c.args.table.now c.args.proof.now c.args.ws.now c.args.floor c.args.used c.args.at c.args.left
-    c.requires.Σ c.requires.Γ) = let p = c.requires in
-    node_case (λ u. (SubjectAt c.args.sig.now c.args.table.now c.args.proof.now c.args.ws.now c.args.floor c.args.used c.args.at
-    c.args.left p.Σ p.Γ u) → (NodeSubject c.args.sig.now c.args.table.now c.args.proof.now c.args.ws.now c.args.floor c.args.used c.args.at
-    c.args.left c.requires.Σ c.requires.Γ)) ((λ u h. c.kind-k.ensures ∙ at_kind h)) node-kind
-    (λ o a b e h R. record { o = o; a = a; b = b; ready_node = R }) p.term p.ready.here p.ready in
-    let first-derives : (let a = c.args in Derives a.sig.now a.table.now a.proof.now a.ws.now a.floor a.used (a.at + 1) (a.left - 1)
-    c.if-kind-eq-ATOM.ws c.if-kind-eq-ATOM.first) = elim c.if-kind-eq-ATOM.branch [
-      | then-kind-eq-ATOM w ↦ carried w.ws-is w.first-is
-          (λ Σ Γ u R. atom_derived c.kind.result _ w.atom-first.result w.atom-first.auto.ws (omega (arith, c.requires.room)) u
-          w.if-kind-eq-ATOM.true (c.kind.ensures ∙ at_kind R.here) R w.atom-first.ensures)
-      | else-kind-eq-ATOM w ↦ carried w.ws-is w.first-is w.derive-first.ensures
-    ] in
-    let first-length : length c.if-kind-eq-ATOM.ws ≡ length c.args.ws.now = c.if-kind-eq-ATOM.auto.ws in
-    let mid-length : length c.enter-entered.new.ws ≡ length c.args.ws.now = c.enter-entered.auto.ws ∙ first-length in
-    let keep-fits : c.in-Fits.keep ≤ length c.enter-entered.new.ws = let R = node_at.ready_node in
-    omega (
-      arith,
-      (let p = c.requires in level R _ _ _ _ _ _ (between_children R _ c.if-kind-eq-ATOM.first _ _ first-derives c.in-Typed-first.is)
-          (let B = between_children R _ c.if-kind-eq-ATOM.first _ _ first-derives c.in-Typed-first.is in
-          inside_node _ _ _ B.type _ _ _ _ c.enter-entered.result _ _ (c.enter-entered.ensures _ _ B.type B.enters) c.in-Fits.is) p.below mid-length
-          p.room),
-      two_deep R,
-      c.requires.room,
-      mid-length,
-    ) in
-    omega (arith, keep-fits, mid-length, c.well_formed.1.1.1.0)
+pub offset_bounds-ws-entered : goal.offset_bounds-ws-entered
+offset_bounds-ws-entered t c =
+    let N = the_node t (goal.at-offset_bounds-ws-entered t c).In_default in
+    let F = first t (goal.at-offset_bounds-ws-entered t c).Joined-eq in
+    let W = second t (goal.at-offset_bounds-ws-entered t c).In_ok-entered-in_default F N.ready in
+    omega (arith, keep_fits W, W.same, c.well_formed.1.1.1.0)
 
 pub slice_bounds-derive-count : goal.slice_bounds-derive-count
 slice_bounds-derive-count t c =
-    let node-kind : kind_node ≤ c.kind-k.result = omega (arith, c.if-k-eq-ATOM.false, c.if-k-eq-VARIABLE.false, c.if-k-eq-SIGN.false) in
-    let node_at : (NodeSubject c.args.sig.now c.args.table.now c.args.proof.now c.args.ws.now c.args.floor c.args.used c.args.at c.args.left
-    c.requires.Σ c.requires.Γ) = let p = c.requires in
-    node_case (λ u. (SubjectAt c.args.sig.now c.args.table.now c.args.proof.now c.args.ws.now c.args.floor c.args.used c.args.at
-    c.args.left p.Σ p.Γ u) → (NodeSubject c.args.sig.now c.args.table.now c.args.proof.now c.args.ws.now c.args.floor c.args.used c.args.at
-    c.args.left c.requires.Σ c.requires.Γ)) ((λ u h. c.kind-k.ensures ∙ at_kind h)) node-kind
-    (λ o a b e h R. record { o = o; a = a; b = b; ready_node = R }) p.term p.ready.here p.ready in
-    let first-derives : (let a = c.args in Derives a.sig.now a.table.now a.proof.now a.ws.now a.floor a.used (a.at + 1) (a.left - 1)
-    c.if-kind-eq-ATOM.ws c.if-kind-eq-ATOM.first) = elim c.if-kind-eq-ATOM.branch [
-      | then-kind-eq-ATOM w ↦ carried w.ws-is w.first-is
-          (λ Σ Γ u R. atom_derived c.kind.result _ w.atom-first.result w.atom-first.auto.ws (omega (arith, c.requires.room)) u
-          w.if-kind-eq-ATOM.true (c.kind.ensures ∙ at_kind R.here) R w.atom-first.ensures)
-      | else-kind-eq-ATOM w ↦ carried w.ws-is w.first-is w.derive-first.ensures
-    ] in
-    let first-length : length c.if-kind-eq-ATOM.ws ≡ length c.args.ws.now = c.if-kind-eq-ATOM.auto.ws in
-    let mid-length : length c.enter-entered.new.ws ≡ length c.args.ws.now = c.enter-entered.auto.ws ∙ first-length in
-    let keep-fits : c.in-Fits.keep ≤ length c.enter-entered.new.ws = let R = node_at.ready_node in
-    omega (
-      arith,
-      (let p = c.requires in level R _ _ _ _ _ _ (between_children R _ c.if-kind-eq-ATOM.first _ _ first-derives c.in-Typed-first.is)
-          (let B = between_children R _ c.if-kind-eq-ATOM.first _ _ first-derives c.in-Typed-first.is in
-          inside_node _ _ _ B.type _ _ _ _ c.enter-entered.result _ _ (c.enter-entered.ensures _ _ B.type B.enters) c.in-Fits.is) p.below mid-length
-          p.room),
-      two_deep R,
-      c.requires.room,
-      mid-length,
-    ) in
-    keep-fits
+    let N = the_node t (goal.at-slice_bounds-derive-count t c).In_default in
+    let F = first t (goal.at-slice_bounds-derive-count t c).Joined-eq in
+    let W = second t (goal.at-slice_bounds-derive-count t c).In_ok-entered-in_default F N.ready in
+    keep_fits W
 
 pub slice_bounds-derive-start : goal.slice_bounds-derive-start
 slice_bounds-derive-start t c =
-    let node-kind : kind_node ≤ c.kind-k.result = omega (arith, c.if-k-eq-ATOM.false, c.if-k-eq-VARIABLE.false, c.if-k-eq-SIGN.false) in
-    let node_at : (NodeSubject c.args.sig.now c.args.table.now c.args.proof.now c.args.ws.now c.args.floor c.args.used c.args.at c.args.left
-    c.requires.Σ c.requires.Γ) = let p = c.requires in
-    node_case (λ u. (SubjectAt c.args.sig.now c.args.table.now c.args.proof.now c.args.ws.now c.args.floor c.args.used c.args.at
-    c.args.left p.Σ p.Γ u) → (NodeSubject c.args.sig.now c.args.table.now c.args.proof.now c.args.ws.now c.args.floor c.args.used c.args.at
-    c.args.left c.requires.Σ c.requires.Γ)) ((λ u h. c.kind-k.ensures ∙ at_kind h)) node-kind
-    (λ o a b e h R. record { o = o; a = a; b = b; ready_node = R }) p.term p.ready.here p.ready in
-    let first-derives : (let a = c.args in Derives a.sig.now a.table.now a.proof.now a.ws.now a.floor a.used (a.at + 1) (a.left - 1)
-    c.if-kind-eq-ATOM.ws c.if-kind-eq-ATOM.first) = elim c.if-kind-eq-ATOM.branch [
-      | then-kind-eq-ATOM w ↦ carried w.ws-is w.first-is
-          (λ Σ Γ u R. atom_derived c.kind.result _ w.atom-first.result w.atom-first.auto.ws (omega (arith, c.requires.room)) u
-          w.if-kind-eq-ATOM.true (c.kind.ensures ∙ at_kind R.here) R w.atom-first.ensures)
-      | else-kind-eq-ATOM w ↦ carried w.ws-is w.first-is w.derive-first.ensures
-    ] in
-    let first-length : length c.if-kind-eq-ATOM.ws ≡ length c.args.ws.now = c.if-kind-eq-ATOM.auto.ws in
-    let mid-length : length c.enter-entered.new.ws ≡ length c.args.ws.now = c.enter-entered.auto.ws ∙ first-length in
-    let keep-fits : c.in-Fits.keep ≤ length c.enter-entered.new.ws = let R = node_at.ready_node in
-    omega (
-      arith,
-      (let p = c.requires in level R _ _ _ _ _ _ (between_children R _ c.if-kind-eq-ATOM.first _ _ first-derives c.in-Typed-first.is)
-          (let B = between_children R _ c.if-kind-eq-ATOM.first _ _ first-derives c.in-Typed-first.is in
-          inside_node _ _ _ B.type _ _ _ _ c.enter-entered.result _ _ (c.enter-entered.ensures _ _ B.type B.enters) c.in-Fits.is) p.below mid-length
-          p.room),
-      two_deep R,
-      c.requires.room,
-      mid-length,
-    ) in
-    keep-fits
+    let N = the_node t (goal.at-slice_bounds-derive-start t c).In_default in
+    let F = first t (goal.at-slice_bounds-derive-start t c).Joined-eq in
+    let W = second t (goal.at-slice_bounds-derive-start t c).In_ok-entered-in_default F N.ready in
+    keep_fits W
 
-pub overflow_sub-left-in-Fits : goal.overflow_sub-left-in-Fits
-overflow_sub-left-in-Fits t c =
-    let deep : 0 < c.args.left = let a = c.requires.ready.deep in let b = depth_pos c.requires.term in omega arith in
-    omega arith
+pub overflow_sub-left-in_default : goal.overflow_sub-left-in_default
+overflow_sub-left-in_default t c = let a = c.requires.ready.deep in let b = depth_pos c.requires.term in omega arith
 
-pub derive-second-requires : goal.derive-second-requires
-derive-second-requires t c =
-    let node-kind : kind_node ≤ c.kind-k.result = omega (arith, c.if-k-eq-ATOM.false, c.if-k-eq-VARIABLE.false, c.if-k-eq-SIGN.false) in
-    let node_at : (NodeSubject c.args.sig.now c.args.table.now c.args.proof.now c.args.ws.now c.args.floor c.args.used c.args.at c.args.left
-    c.requires.Σ c.requires.Γ) = let p = c.requires in
-    node_case (λ u. (SubjectAt c.args.sig.now c.args.table.now c.args.proof.now c.args.ws.now c.args.floor c.args.used c.args.at
-    c.args.left p.Σ p.Γ u) → (NodeSubject c.args.sig.now c.args.table.now c.args.proof.now c.args.ws.now c.args.floor c.args.used c.args.at
-    c.args.left c.requires.Σ c.requires.Γ)) ((λ u h. c.kind-k.ensures ∙ at_kind h)) node-kind
-    (λ o a b e h R. record { o = o; a = a; b = b; ready_node = R }) p.term p.ready.here p.ready in
-    let first-derives : (let a = c.args in Derives a.sig.now a.table.now a.proof.now a.ws.now a.floor a.used (a.at + 1) (a.left - 1)
-    c.if-kind-eq-ATOM.ws c.if-kind-eq-ATOM.first) = elim c.if-kind-eq-ATOM.branch [
-      | then-kind-eq-ATOM w ↦ carried w.ws-is w.first-is
-          (λ Σ Γ u R. atom_derived c.kind.result _ w.atom-first.result w.atom-first.auto.ws (omega (arith, c.requires.room)) u
-          w.if-kind-eq-ATOM.true (c.kind.ensures ∙ at_kind R.here) R w.atom-first.ensures)
-      | else-kind-eq-ATOM w ↦ carried w.ws-is w.first-is w.derive-first.ensures
-    ] in
-    let first-length : length c.if-kind-eq-ATOM.ws ≡ length c.args.ws.now = c.if-kind-eq-ATOM.auto.ws in
-    let mid-length : length c.enter-entered.new.ws ≡ length c.args.ws.now = c.enter-entered.auto.ws ∙ first-length in
+pub derive-requires-in_default : goal.derive-requires-in_default
+derive-requires-in_default t c =
     let p = c.requires in
-    let R = node_at.ready_node in
-    let I = let B = between_children R _ c.if-kind-eq-ATOM.first _ _ first-derives c.in-Typed-first.is in
-    inside_node _ _ _ B.type _ _ _ _ c.enter-entered.result _ _ (c.enter-entered.ensures _ _ B.type B.enters) c.in-Fits.is in (
-      omega (arith, two_deep R),
+    let N = the_node t (goal.at-derive-requires-in_default t c).In_default in
+    let F = first t (goal.at-derive-requires-in_default t c).Joined-eq in
+    let W = second t (goal.at-derive-requires-in_default t c).In_ok-entered-in_default F N.ready in (
+      omega (arith, two_deep N.ready),
       record {
         Σ = p.Σ;
         Γ = _;
-        term = node_at.b;
-        ready = (let p = c.requires in second_ready R _ _ _ _ _ _ (between_children R _ c.if-kind-eq-ATOM.first _ _ first-derives
-            c.in-Typed-first.is) (let B = between_children R _ c.if-kind-eq-ATOM.first _ _ first-derives c.in-Typed-first.is in
-            inside_node _ _ _ B.type _ _ _ _ c.enter-entered.result _ _ (c.enter-entered.ensures _ _ B.type B.enters) c.in-Fits.is) p.below mid-length p.room);
+        term = N.b;
+        ready = second_ready W;
         short = p.short;
-        below = omega (arith, p.below, I.kept_is);
-        room = omega (
-          arith,
-          p.room,
-          two_deep R,
-          (let p = c.requires in level R _ _ _ _ _ _ (between_children R _ c.if-kind-eq-ATOM.first _ _ first-derives c.in-Typed-first.is) (let B =
-              between_children R _ c.if-kind-eq-ATOM.first _ _ first-derives c.in-Typed-first.is in
-              inside_node _ _ _ B.type _ _ _ _ c.enter-entered.result _ _
-              (c.enter-entered.ensures _ _ B.type B.enters) c.in-Fits.is) p.below mid-length p.room),
-          mid-length,
-          rest_length c.in-Fits.keep
-              c.enter-entered.new.ws,
-        );
+        below = omega (arith, p.below, W.inside.kept_is);
+        room = omega (arith, p.room, two_deep N.ready, level W, W.same, rest_length c.in_ok-entered-in_default.entered.keep c.enter.new.ws);
       },
     )
 
-pub shape_of-ws-in_default-second : goal.shape_of-ws-in_default-second
-shape_of-ws-in_default-second t c =
-    let node-kind : kind_node ≤ c.kind-k.result = omega (arith, c.if-k-eq-ATOM.false, c.if-k-eq-VARIABLE.false, c.if-k-eq-SIGN.false) in
-    let node_at : (NodeSubject c.args.sig.now c.args.table.now c.args.proof.now c.args.ws.now c.args.floor c.args.used c.args.at c.args.left
-    c.requires.Σ c.requires.Γ) = let p = c.requires in
-    node_case (λ u. (SubjectAt c.args.sig.now c.args.table.now c.args.proof.now c.args.ws.now c.args.floor c.args.used c.args.at
-    c.args.left p.Σ p.Γ u) → (NodeSubject c.args.sig.now c.args.table.now c.args.proof.now c.args.ws.now c.args.floor c.args.used c.args.at
-    c.args.left c.requires.Σ c.requires.Γ)) ((λ u h. c.kind-k.ensures ∙ at_kind h)) node-kind
-    (λ o a b e h R. record { o = o; a = a; b = b; ready_node = R }) p.term p.ready.here p.ready in
-    let first-derives : (let a = c.args in Derives a.sig.now a.table.now a.proof.now a.ws.now a.floor a.used (a.at + 1) (a.left - 1)
-    c.if-kind-eq-ATOM.ws c.if-kind-eq-ATOM.first) = elim c.if-kind-eq-ATOM.branch [
-      | then-kind-eq-ATOM w ↦ carried w.ws-is w.first-is
-          (λ Σ Γ u R. atom_derived c.kind.result _ w.atom-first.result w.atom-first.auto.ws (omega (arith, c.requires.room)) u
-          w.if-kind-eq-ATOM.true (c.kind.ensures ∙ at_kind R.here) R w.atom-first.ensures)
-      | else-kind-eq-ATOM w ↦ carried w.ws-is w.first-is w.derive-first.ensures
-    ] in
-    let first-length : length c.if-kind-eq-ATOM.ws ≡ length c.args.ws.now = c.if-kind-eq-ATOM.auto.ws in
-    let mid-length : length c.enter-entered.new.ws ≡ length c.args.ws.now = c.enter-entered.auto.ws ∙ first-length in
-    let keep-fits : c.in-Fits.keep ≤ length c.enter-entered.new.ws = let R = node_at.ready_node in
-    omega (
-      arith,
-      (let p = c.requires in level R _ _ _ _ _ _ (between_children R _ c.if-kind-eq-ATOM.first _ _ first-derives c.in-Typed-first.is)
-          (let B = between_children R _ c.if-kind-eq-ATOM.first _ _ first-derives c.in-Typed-first.is in
-          inside_node _ _ _ B.type _ _ _ _ c.enter-entered.result _ _ (c.enter-entered.ensures _ _ B.type B.enters) c.in-Fits.is) p.below mid-length
-          p.room),
-      two_deep R,
-      c.requires.room,
-      mid-length,
-    ) in
-    (whole_length c.in-Fits.keep c.enter-entered.new.ws c.derive-second.new.ws keep-fits c.derive-second.auto.ws ∙ mid-length)
-
-pub returns-in_default-second : goal.returns-in_default-second
-returns-in_default-second t c =
-    let node-kind : kind_node ≤ c.kind-k.result = omega (arith, c.if-k-eq-ATOM.false, c.if-k-eq-VARIABLE.false, c.if-k-eq-SIGN.false) in
-    let first-derives : (let a = c.args in Derives a.sig.now a.table.now a.proof.now a.ws.now a.floor a.used (a.at + 1) (a.left - 1)
-    c.if-kind-eq-ATOM.ws c.if-kind-eq-ATOM.first) = elim c.if-kind-eq-ATOM.branch [
-      | then-kind-eq-ATOM w ↦ carried w.ws-is w.first-is
-          (λ Σ Γ u R. atom_derived c.kind.result _ w.atom-first.result w.atom-first.auto.ws (omega (arith, c.requires.room)) u
-          w.if-kind-eq-ATOM.true (c.kind.ensures ∙ at_kind R.here) R w.atom-first.ensures)
-      | else-kind-eq-ATOM w ↦ carried w.ws-is w.first-is w.derive-first.ensures
-    ] in
-    let first-length : length c.if-kind-eq-ATOM.ws ≡ length c.args.ws.now = c.if-kind-eq-ATOM.auto.ws in
-    let mid-length : length c.enter-entered.new.ws ≡ length c.args.ws.now = c.enter-entered.auto.ws ∙ first-length in
-    let p = c.requires in
-    λ Σ Γ u R. node_case (λ u. (SubjectAt c.args.sig.now c.args.table.now c.args.proof.now c.args.ws.now c.args.floor c.args.used c.args.at
-    c.args.left Σ Γ u) → (Derived (infer Σ Γ c.args.at u) (c.args.at + size u) c.args.used c.args.ws.now
-    (whole_of c.in-Fits.keep c.enter-entered.new.ws c.derive-second.new.ws) c.derive-second.result))
-    ((λ u h. c.kind-k.ensures ∙ at_kind h)) node-kind (λ o a b e h R. second_refusal R _ _ _ _ _ _ (between_children R _ c.if-kind-eq-ATOM.first _ _
-    first-derives c.in-Typed-first.is) (let B = between_children R _ c.if-kind-eq-ATOM.first _ _ first-derives c.in-Typed-first.is in
-    inside_node _ _ _ B.type _ _ _ _ c.enter-entered.result _ _ (c.enter-entered.ensures _ _ B.type B.enters) c.in-Fits.is) p.below mid-length p.room _
-    c.derive-second.result c.derive-second.auto.ws c.derive-second.ensures _ _ c.in_default-second.is) u R.here R
-
 pub formed-requires : goal.formed-requires
 formed-requires t c =
-    let node-kind : kind_node ≤ c.kind-k.result = omega (arith, c.if-k-eq-ATOM.false, c.if-k-eq-VARIABLE.false, c.if-k-eq-SIGN.false) in
-    let node_at : (NodeSubject c.args.sig.now c.args.table.now c.args.proof.now c.args.ws.now c.args.floor c.args.used c.args.at c.args.left
-    c.requires.Σ c.requires.Γ) = let p = c.requires in
-    node_case (λ u. (SubjectAt c.args.sig.now c.args.table.now c.args.proof.now c.args.ws.now c.args.floor c.args.used c.args.at
-    c.args.left p.Σ p.Γ u) → (NodeSubject c.args.sig.now c.args.table.now c.args.proof.now c.args.ws.now c.args.floor c.args.used c.args.at
-    c.args.left c.requires.Σ c.requires.Γ)) ((λ u h. c.kind-k.ensures ∙ at_kind h)) node-kind
-    (λ o a b e h R. record { o = o; a = a; b = b; ready_node = R }) p.term p.ready.here p.ready in
-    let first-derives : (let a = c.args in Derives a.sig.now a.table.now a.proof.now a.ws.now a.floor a.used (a.at + 1) (a.left - 1)
-    c.if-kind-eq-ATOM.ws c.if-kind-eq-ATOM.first) = elim c.if-kind-eq-ATOM.branch [
-      | then-kind-eq-ATOM w ↦ carried w.ws-is w.first-is
-          (λ Σ Γ u R. atom_derived c.kind.result _ w.atom-first.result w.atom-first.auto.ws (omega (arith, c.requires.room)) u
-          w.if-kind-eq-ATOM.true (c.kind.ensures ∙ at_kind R.here) R w.atom-first.ensures)
-      | else-kind-eq-ATOM w ↦ carried w.ws-is w.first-is w.derive-first.ensures
-    ] in
-    let first-length : length c.if-kind-eq-ATOM.ws ≡ length c.args.ws.now = c.if-kind-eq-ATOM.auto.ws in
-    let mid-length : length c.enter-entered.new.ws ≡ length c.args.ws.now = c.enter-entered.auto.ws ∙ first-length in
-    let p = c.requires in
-    let R = node_at.ready_node in
-    formable R _ _ _ _ _ _ (between_children R _ c.if-kind-eq-ATOM.first _ _ first-derives c.in-Typed-first.is) (let B =
-    between_children R _ c.if-kind-eq-ATOM.first _ _ first-derives c.in-Typed-first.is in
-    inside_node _ _ _ B.type _ _ _ _ c.enter-entered.result _ _ (c.enter-entered.ensures _ _ B.type B.enters) c.in-Fits.is) p.below mid-length p.room _
-    c.derive-second.result c.derive-second.auto.ws c.derive-second.ensures _ _ c.in-Typed-second.is p.short
+    let N = the_node t (goal.at-formed-requires t c).In_default in
+    let F = first t (goal.at-formed-requires t c).Joined-eq in
+    let W = second t (goal.at-formed-requires t c).In_ok-entered-in_default F N.ready in
+    formable W _ c.derive-in_default.auto.ws c.derive-in_default.ensures _ (ap answer c.in_ok-second-in_default.was) c.requires.short
 
-pub shape_of-ws-in-Typed-second : goal.shape_of-ws-in-Typed-second
-shape_of-ws-in-Typed-second t c =
-    let node-kind : kind_node ≤ c.kind-k.result = omega (arith, c.if-k-eq-ATOM.false, c.if-k-eq-VARIABLE.false, c.if-k-eq-SIGN.false) in
-    let node_at : (NodeSubject c.args.sig.now c.args.table.now c.args.proof.now c.args.ws.now c.args.floor c.args.used c.args.at c.args.left
-    c.requires.Σ c.requires.Γ) = let p = c.requires in
-    node_case (λ u. (SubjectAt c.args.sig.now c.args.table.now c.args.proof.now c.args.ws.now c.args.floor c.args.used c.args.at
-    c.args.left p.Σ p.Γ u) → (NodeSubject c.args.sig.now c.args.table.now c.args.proof.now c.args.ws.now c.args.floor c.args.used c.args.at
-    c.args.left c.requires.Σ c.requires.Γ)) ((λ u h. c.kind-k.ensures ∙ at_kind h)) node-kind
-    (λ o a b e h R. record { o = o; a = a; b = b; ready_node = R }) p.term p.ready.here p.ready in
-    let first-derives : (let a = c.args in Derives a.sig.now a.table.now a.proof.now a.ws.now a.floor a.used (a.at + 1) (a.left - 1)
-    c.if-kind-eq-ATOM.ws c.if-kind-eq-ATOM.first) = elim c.if-kind-eq-ATOM.branch [
-      | then-kind-eq-ATOM w ↦ carried w.ws-is w.first-is
-          (λ Σ Γ u R. atom_derived c.kind.result _ w.atom-first.result w.atom-first.auto.ws (omega (arith, c.requires.room)) u
-          w.if-kind-eq-ATOM.true (c.kind.ensures ∙ at_kind R.here) R w.atom-first.ensures)
-      | else-kind-eq-ATOM w ↦ carried w.ws-is w.first-is w.derive-first.ensures
-    ] in
-    let first-length : length c.if-kind-eq-ATOM.ws ≡ length c.args.ws.now = c.if-kind-eq-ATOM.auto.ws in
-    let mid-length : length c.enter-entered.new.ws ≡ length c.args.ws.now = c.enter-entered.auto.ws ∙ first-length in
-    let keep-fits : c.in-Fits.keep ≤ length c.enter-entered.new.ws = let R = node_at.ready_node in
-    omega (
-      arith,
-      (let p = c.requires in level R _ _ _ _ _ _ (between_children R _ c.if-kind-eq-ATOM.first _ _ first-derives c.in-Typed-first.is)
-          (let B = between_children R _ c.if-kind-eq-ATOM.first _ _ first-derives c.in-Typed-first.is in
-          inside_node _ _ _ B.type _ _ _ _ c.enter-entered.result _ _ (c.enter-entered.ensures _ _ B.type B.enters) c.in-Fits.is) p.below mid-length
-          p.room),
-      two_deep R,
-      c.requires.room,
-      mid-length,
-    ) in
-    c.formed.auto.ws ∙ (whole_length c.in-Fits.keep c.enter-entered.new.ws c.derive-second.new.ws keep-fits c.derive-second.auto.ws ∙ mid-length)
+-- ---- what is answered
+pub returns-in-Atom : goal.returns-in-Atom
+returns-in-Atom t c = atom_derived c.class_of.ensures c.in-Atom.is c.atom.auto.ws (omega (arith, c.requires.room)) c.atom.ensures
 
-pub returns-in-Typed-second : goal.returns-in-Typed-second
-returns-in-Typed-second t c =
-    let node-kind : kind_node ≤ c.kind-k.result = omega (arith, c.if-k-eq-ATOM.false, c.if-k-eq-VARIABLE.false, c.if-k-eq-SIGN.false) in
-    let first-derives : (let a = c.args in Derives a.sig.now a.table.now a.proof.now a.ws.now a.floor a.used (a.at + 1) (a.left - 1)
-    c.if-kind-eq-ATOM.ws c.if-kind-eq-ATOM.first) = elim c.if-kind-eq-ATOM.branch [
-      | then-kind-eq-ATOM w ↦ carried w.ws-is w.first-is
-          (λ Σ Γ u R. atom_derived c.kind.result _ w.atom-first.result w.atom-first.auto.ws (omega (arith, c.requires.room)) u
-          w.if-kind-eq-ATOM.true (c.kind.ensures ∙ at_kind R.here) R w.atom-first.ensures)
-      | else-kind-eq-ATOM w ↦ carried w.ws-is w.first-is w.derive-first.ensures
-    ] in
-    let first-length : length c.if-kind-eq-ATOM.ws ≡ length c.args.ws.now = c.if-kind-eq-ATOM.auto.ws in
-    let mid-length : length c.enter-entered.new.ws ≡ length c.args.ws.now = c.enter-entered.auto.ws ∙ first-length in
-    let p = c.requires in
-    λ Σ Γ u R. node_case (λ u. (SubjectAt c.args.sig.now c.args.table.now c.args.proof.now c.args.ws.now c.args.floor c.args.used c.args.at
-    c.args.left Σ Γ u) → (Derived (infer Σ Γ c.args.at u) (c.args.at + size u) c.args.used c.args.ws.now c.formed.new.ws c.formed.result))
-    ((λ u h. c.kind-k.ensures ∙ at_kind h)) node-kind (λ o a b e h R.
-    node_derived R _ _ _ _ _ _ (between_children R _ c.if-kind-eq-ATOM.first _ _ first-derives c.in-Typed-first.is) (let B =
-    between_children R _ c.if-kind-eq-ATOM.first _ _ first-derives c.in-Typed-first.is in
-    inside_node _ _ _ B.type _ _ _ _ c.enter-entered.result _ _ (c.enter-entered.ensures _ _ B.type B.enters) c.in-Fits.is) p.below mid-length p.room _
-    c.derive-second.result c.derive-second.auto.ws c.derive-second.ensures _ _ c.in-Typed-second.is _
-    c.formed.result c.formed.auto.ws
-    (c.formed.ensures o a b _ _
-    (forms_here R _ _ _ _ _ _ (between_children R _ c.if-kind-eq-ATOM.first _ _ first-derives c.in-Typed-first.is) (let B =
-    between_children R _ c.if-kind-eq-ATOM.first _ _ first-derives c.in-Typed-first.is in
-    inside_node _ _ _ B.type _ _ _ _ c.enter-entered.result _ _ (c.enter-entered.ensures _ _ B.type B.enters) c.in-Fits.is) p.below mid-length p.room _
-    c.derive-second.result c.derive-second.auto.ws c.derive-second.ensures _ _ c.in-Typed-second.is))) u R.here R
+pub returns-in-Variable : goal.returns-in-Variable
+returns-in-Variable t c =
+    variable_derived c.class_of.ensures c.in-Variable.is c.variable.auto.ws (omega (arith, c.requires.room)) c.payload_of.ensures c.variable.ensures
 
-pub shape_of-ws-in-Refused : goal.shape_of-ws-in-Refused
-shape_of-ws-in-Refused t c =
-    let first-length : length c.if-kind-eq-ATOM.ws ≡ length c.args.ws.now = c.if-kind-eq-ATOM.auto.ws in
-    c.enter-entered.auto.ws ∙ first-length
+pub returns-in_err-inner-in-Sign : goal.returns-in_err-inner-in-Sign
+returns-in_err-inner-in-Sign t c =
+    sign_refused c.class_of.ensures c.in-Sign.is c.derive.ensures (ap answer c.in_err-inner-in-Sign.was) (handed_on _ _ c.from_residual.ensures)
 
-pub returns-in-Refused : goal.returns-in-Refused
-returns-in-Refused t c =
-    let node-kind : kind_node ≤ c.kind-k.result = omega (arith, c.if-k-eq-ATOM.false, c.if-k-eq-VARIABLE.false, c.if-k-eq-SIGN.false) in
-    let first-derives : (let a = c.args in Derives a.sig.now a.table.now a.proof.now a.ws.now a.floor a.used (a.at + 1) (a.left - 1)
-    c.if-kind-eq-ATOM.ws c.if-kind-eq-ATOM.first) = elim c.if-kind-eq-ATOM.branch [
-      | then-kind-eq-ATOM w ↦ carried w.ws-is w.first-is
-          (λ Σ Γ u R. atom_derived c.kind.result _ w.atom-first.result w.atom-first.auto.ws (omega (arith, c.requires.room)) u
-          w.if-kind-eq-ATOM.true (c.kind.ensures ∙ at_kind R.here) R w.atom-first.ensures)
-      | else-kind-eq-ATOM w ↦ carried w.ws-is w.first-is w.derive-first.ensures
-    ] in
-    λ Σ Γ u R. node_case (λ u. (SubjectAt c.args.sig.now c.args.table.now c.args.proof.now c.args.ws.now c.args.floor c.args.used c.args.at
-    c.args.left Σ Γ u) → (Derived (infer Σ Γ c.args.at u) (c.args.at + size u) c.args.used c.args.ws.now c.enter-entered.new.ws
-    (Refused c.in-Refused.number c.args.at)))
-    ((λ u h. c.kind-k.ensures ∙ at_kind h)) node-kind (λ o a b e h R. let B = between_children R _ c.if-kind-eq-ATOM.first _ _ first-derives
-    c.in-Typed-first.is in
-    test_refusal _ _ _ _ R B c.enter-entered.result _ (c.enter-entered.ensures o a B.type B.enters) c.in-Refused.is) u R.here R
+pub returns-in_ok-inner-in-Sign : goal.returns-in_ok-inner-in-Sign
+returns-in_ok-inner-in-Sign t c =
+    λ Σ Γ u R. let S = signed_in c.class_of.ensures c.in-Sign.is R c.derive.ensures (ap answer c.in_ok-inner-in-Sign.was) in
+    sign_derived S c.sign.auto.ws (omega (arith, c.requires.room, c.derive.auto.ws)) (c.sign.ensures S.a S.q S.s S.signs)
+
+pub returns-in_err-first-in_default : goal.returns-in_err-first-in_default
+returns-in_err-first-in_default t c =
+    node_derives c.class_of.ensures (rest t (goal.at-returns-in_err-first-in_default t c).In_default) (λ Σ Γ o a b R.
+    first_refusal _ R (first t (goal.at-returns-in_err-first-in_default t c).Joined-eq) (ap answer c.in_err-first-in_default.was)
+    (handed_on _ _ c.from_residual-in_err-first-in_default.ensures))
+
+pub returns-in_err-entered-in_default : goal.returns-in_err-entered-in_default
+returns-in_err-entered-in_default t c =
+    node_derives c.class_of.ensures (rest t (goal.at-returns-in_err-entered-in_default t c).In_default) (λ Σ Γ o a b R.
+    test_refusal _ R (first t (goal.at-returns-in_err-entered-in_default t c).Joined-eq) _ c.enter.ensures (ap answer c.in_ok-first-in_default.was)
+    (ap answer c.in_err-entered-in_default.was) (handed_on _ _ c.from_residual-in_err-entered-in_default.ensures))
+
+pub returns-in_err-second-in_default : goal.returns-in_err-second-in_default
+returns-in_err-second-in_default t c =
+    let F = first t (goal.at-returns-in_err-second-in_default t c).Joined-eq in
+    node_derives c.class_of.ensures (rest t (goal.at-returns-in_err-second-in_default t c).In_default) (λ Σ Γ o a b R.
+    second_refusal (second t (goal.at-returns-in_err-second-in_default t c).In_ok-entered-in_default F R) _ c.derive-in_default.auto.ws
+    c.derive-in_default.ensures (ap answer c.in_err-second-in_default.was) (handed_on _ _ c.from_residual-in_err-second-in_default.ensures))
+
+pub returns-in_ok-second-in_default : goal.returns-in_ok-second-in_default
+returns-in_ok-second-in_default t c =
+    let F = first t (goal.at-returns-in_ok-second-in_default t c).Joined-eq in
+    let q = ap answer c.in_ok-second-in_default.was in
+    node_derives c.class_of.ensures (rest t (goal.at-returns-in_ok-second-in_default t c).In_default) (λ Σ Γ o a b R.
+    let W = second t (goal.at-returns-in_ok-second-in_default t c).In_ok-entered-in_default F R in
+    node_derived W _ c.derive-in_default.auto.ws c.derive-in_default.ensures _ q c.formed.auto.ws
+    (c.formed.ensures o a b _ _ (forms_here W _ c.derive-in_default.auto.ws c.derive-in_default.ensures _ q)))

@@ -4,8 +4,8 @@ use Rattle.words.proofs.Nestings.{whole_few}
 use Rattle.words.proofs.Places.{is_at}
 use Rattle.words.proofs.nesting.nested_whole.Goals as goal
 
-pub returns-then-len-left : goal.returns-then-len-left
-returns-then-len-left c = whole_few c.args.words.now c.args.left c.if-len-left.true
+pub returns-then-words-left : goal.returns-then-words-left
+returns-then-words-left c = whole_few c.args.words.now c.args.left c.if-words-left.true
 
 pub returns : goal.returns
 returns c = λ t i. c.nested.ensures t (is_at i)

@@ -1,2 +1,0 @@
--- The benchmark's function meets its contract.
-pub mod Answers
