@@ -45,11 +45,13 @@ module _ (l : Lent) (reg table : List ℕ) (day : ℕ) (term : List ℕ) (r : An
 
 -- ---- the answer
 
-pub judged_refused : {m p : ℕ} (o : Result Term) (end : ℕ) (new : List ℕ) (r : Answer Typed Refusal) → o ≡ refused m p → answer r ≡ refused m p → Judged o end new r
+pub judged_refused : {m p : ℕ} (o : Result Term) (end : ℕ) (new : List ℕ) (r : Answer Typed Refusal)
+    → o ≡ refused m p → answer r ≡ refused m p → Judged o end new r
 judged_refused {m} {p} o end new r e f = subst (λ (x : Result Term). Judged x end new r) (sym e) (record { answer = f; front = tt })
 
 -- a judgement of one result is one of another that is the same
-pub judged_as : {A : Term} {o q : Result Term} {end : ℕ} {new : List ℕ} {r : Answer Typed Refusal} → o ≡ ok A → q ≡ ok A → Judged o end new r → Judged q end new r
+pub judged_as : {A : Term} {o q : Result Term} {end : ℕ} {new : List ℕ} {r : Answer Typed Refusal}
+    → o ≡ ok A → q ≡ ok A → Judged o end new r → Judged q end new r
 judged_as {end} {new} {r} e f J = subst (λ (x : Result Term). Judged x end new r) (e ∙ sym f) J
 
 -- ---- what is handed back
@@ -59,7 +61,8 @@ pub refused_by : {X : Type 0} (e : Refusal) (o : Result Term) (r : Answer X Refu
 refused_by e o (Ok x) h f = search rules
 refused_by e o (Err y) h f = subst (RefusedBy o) (sym (f.1)) h
 
-pub handed_type : {end : ℕ} {new : List ℕ} {r : Answer Typed Refusal} (o : Result Term) (t : Typed) → Judged o end new r → answer r ≡ ok t → TypeIs o (take t.words new)
+pub handed_type : {end : ℕ} {new : List ℕ} {r : Answer Typed Refusal} (o : Result Term) (t : Typed)
+    → Judged o end new r → answer r ≡ ok t → TypeIs o (take t.words new)
 handed_type {end} {new} {r} o t J q =
     let T = type_found o end new r t J q in
     let w : take t.words new ≡ encode T.type = ap₂ (λ (i : ℕ) (x : List ℕ). take i x) T.words_are T.front.words ∙ take_at

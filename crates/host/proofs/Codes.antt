@@ -134,7 +134,8 @@ written_mapped : (o : Result (List ℕ)) → count_of (o >>= λ xs. ok (length x
 written_mapped (ok xs) = refl
 written_mapped (refused m p) = refl
 
-pub converted_to : (o : Result (List ℕ)) (old new : List ℕ) (r : Result ℕ) (written code : ℕ) → ConvertedAs o old new r → code ≡ code_of r → written ≡ count_of r
+pub converted_to : (o : Result (List ℕ)) (old new : List ℕ) (r : Result ℕ) (written code : ℕ) → ConvertedAs o old new r
+    → code ≡ code_of r → written ≡ count_of r
     → ConvertedTo o old new written code
 converted_to o old new r written code C c w = record {
   answer = c ∙ ap code_of C.answer ∙ code_mapped length o;

@@ -122,11 +122,13 @@ pub record TypeFound (o : Result Term) (new : List ℕ) (words : ℕ) : Type 0 w
   pub words_are : words ≡ size type
   pub front : TypeAt new 0 type
 
-pub type_found : (o : Result Term) (end : ℕ) (new : List ℕ) (r : Answer Typed Refusal) (t : Typed) → Judged o end new r → answer r ≡ ok t → TypeFound o new t.words
+pub type_found : (o : Result Term) (end : ℕ) (new : List ℕ) (r : Answer Typed Refusal) (t : Typed)
+    → Judged o end new r → answer r ≡ ok t → TypeFound o new t.words
 type_found o end new r t J q = bound o _ (sym J.answer ∙ q) λ A i w.
     record { type = A; is = i; words_are = ap (λ (x : Typed). x.words) (sym (ok_inj w)); front = subst (λ (x : Result Term). Front x new) i J.front }
 
-pub type_refused : {m p : ℕ} (o : Result Term) (end : ℕ) (new : List ℕ) (r : Answer Typed Refusal) → Judged o end new r → answer r ≡ refused m p → o ≡ refused m p
+pub type_refused : {m p : ℕ} (o : Result Term) (end : ℕ) (new : List ℕ) (r : Answer Typed Refusal)
+    → Judged o end new r → answer r ≡ refused m p → o ≡ refused m p
 type_refused o end new r J q = not_mapped _ o (sym J.answer ∙ q)
 
 -- the table's part that is lent

@@ -19,7 +19,8 @@ use Rattle.check_call.proofs.judge.Goals as goal
 
 pub returns-in_err-count : goal.returns-in_err-count
 returns-in_err-count c =
-    judged_refused _ _ _ _ (check_not_prepared (lent_by c.args.signature c.args.ws.now) c.args.register.now _ c.args.day c.args.term.now _ c.prepare.ensures (ap answer c.in_err-count.was)) (handed_on _ _ c.from_residual.ensures)
+    judged_refused _ _ _ _ (check_not_prepared (lent_by c.args.signature c.args.ws.now) c.args.register.now _ c.args.day c.args.term.now _ c.prepare.ensures
+    (ap answer c.in_err-count.was)) (handed_on _ _ c.from_residual.ensures)
 
 pub slice_bounds-table-end : goal.slice_bounds-table-end
 slice_bounds-table-end c =
@@ -53,7 +54,8 @@ returns-in_err-typed c =
     let a = c.args in
     let so : PassedSo (lent_by a.signature a.ws.now) a.register.now c.prepare.new.table c.prepare.result (check_own a.day a.term.now) c.prepare.ensures
     c.in_ok-count.count = passed_so _ _ _ _ _ c.prepare.ensures _ (ap answer c.in_ok-count.was) in
-    judged_refused _ _ _ _ (check_not_typed (lent_by a.signature a.ws.now) a.register.now _ a.day a.term.now _ _ _ so (type_refused _ _ _ _ (c.check_term.ensures so.Σ so.constants) (ap answer c.in_err-typed.was)))
+    judged_refused _ _ _ _ (check_not_typed (lent_by a.signature a.ws.now) a.register.now _ a.day a.term.now _ _ _ so
+    (type_refused _ _ _ _ (c.check_term.ensures so.Σ so.constants) (ap answer c.in_err-typed.was)))
     (handed_on _ _ c.from_residual-in_err-typed.ensures)
 
 pub first_miss-requires : goal.first_miss-requires
@@ -77,7 +79,8 @@ returns-in_err-first_miss c =
     let found = type_found _ _ _ _ _ J (ap answer c.in_ok-typed.was) in
     let T = typed_so so.Σ a.term.now found.type found.is in
     let there = reads_list a.register.now c.in_register.ensures.list c.in_register.ensures.span so.reads in
-    judged_refused _ _ _ _ (check_missed (lent_by a.signature a.ws.now) a.register.now _ a.day a.term.now _ _ _ so T (sym (c.first_miss.ensures so.content.records T.term there T.term_is)
+    judged_refused _ _ _ _ (check_missed (lent_by a.signature a.ws.now) a.register.now _ a.day a.term.now _ _ _ so T
+    (sym (c.first_miss.ensures so.content.records T.term there T.term_is)
     ∙ ap answer c.in_err-first_miss.was)) (handed_on _ _ c.from_residual-in_err-first_miss.ensures)
 
 pub returns : goal.returns
@@ -89,7 +92,8 @@ returns c =
     let found = type_found _ _ _ _ _ J (ap answer c.in_ok-typed.was) in
     let T = typed_so so.Σ a.term.now found.type found.is in
     let there = reads_list a.register.now c.in_register.ensures.list c.in_register.ensures.span so.reads in
-    judged_as found.is (check_held (lent_by a.signature a.ws.now) a.register.now _ a.day a.term.now _ _ _ so T (sym (c.first_miss.ensures so.content.records T.term there T.term_is)
+    judged_as found.is (check_held (lent_by a.signature a.ws.now) a.register.now _ a.day a.term.now _ _ _ so T
+    (sym (c.first_miss.ensures so.content.records T.term there T.term_is)
     ∙ ap answer c.in_ok-first_miss.was))
     (subst (λ (r : Answer Typed Refusal). Judged (typed_term so.Σ most_words most_nesting a.term.now) (length a.term.now) c.check_term.new.ws r)
     c.in_ok-typed.was J)

@@ -13,4 +13,5 @@ answer_count-requires c =
 
 pub returns : goal.returns
 returns c =
-    converted_to (from_named c.args.term.now (length c.args.output.now)) _ _ _ _ _ c.from_named.ensures c.answer_count.ensures.answer c.answer_count.ensures.count
+    converted_to (from_named c.args.term.now (length c.args.output.now)) _ _ _ _ _
+    c.from_named.ensures c.answer_count.ensures.answer c.answer_count.ensures.count

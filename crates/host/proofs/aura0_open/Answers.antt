@@ -16,7 +16,8 @@ pub returns : goal.returns
 returns c =
     let e = c.open.ensures in
     record {
-      answer = c.answer.ensures ∙ told_code (open_call (lent_of c.args.signature.now c.args.n c.args.workspace.now) c.args.register.now c.args.mode c.args.rules.now) _ e.answer;
+      answer = c.answer.ensures ∙ told_code (open_call (lent_of c.args.signature.now c.args.n c.args.workspace.now)
+          c.args.register.now c.args.mode c.args.rules.now) _ e.answer;
       register = e.register;
       marks = e.marks;
     }

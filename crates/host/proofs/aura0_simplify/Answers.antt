@@ -9,7 +9,8 @@ use Rattle.host.proofs.aura0_simplify.Goals as goal
 
 pub code-requires : goal.code-requires
 code-requires c =
-    simplify_fits (lent_of c.args.signature.now c.args.n c.args.workspace.now) c.args.register.now c.args.day c.args.term.now c.args.budget (length c.args.output.now) _ _
+    simplify_fits (lent_of c.args.signature.now c.args.n c.args.workspace.now) c.args.register.now c.args.day c.args.term.now
+    c.args.budget (length c.args.output.now) _ _
     (omega (arith, c.well_formed)) (unsimplified_is _ _ _ _ c.simplify.ensures (ap answer c.in-Err.is))
 
 pub returns-in-Ok : goal.returns-in-Ok

@@ -30,7 +30,8 @@ pub returns-then-stands : goal.returns-then-stands
 returns-then-stands c =
     λ l Σ d q g i.
     let k = reads_view _ c.view_of-view.ensures g in
-    sym (say_repeated l Σ d c.args.register.now c.args.day (stated c.args.statement) q (sym (c.first_miss.ensures d.records q k i) ∙ ap answer c.in_ok-first_miss.was) _ (c.stands.ensures d.records k)
+    sym (say_repeated l Σ d c.args.register.now c.args.day (stated c.args.statement) q
+    (sym (c.first_miss.ensures d.records q k i) ∙ ap answer c.in_ok-first_miss.was) _ (c.stands.ensures d.records k)
     c.if-stands.true)
 
 pub overflow_sub-view : goal.overflow_sub-view
@@ -44,7 +45,8 @@ returns-then-view-statement c =
     let V = c.view_of-view.ensures in
     let k = reads_view _ V g in
     ap (λ x. refusal x) c.at.ensures
-    ∙ sym (say_full l Σ d c.args.register.now c.args.day (stated c.args.statement) q (sym (c.first_miss.ensures d.records q k i) ∙ ap answer c.in_ok-first_miss.was) _ (c.stands.ensures d.records k)
+    ∙ sym (say_full l Σ d c.args.register.now c.args.day (stated c.args.statement) q
+    (sym (c.first_miss.ensures d.records q k i) ∙ ap answer c.in_ok-first_miss.was) _ (c.stands.ensures d.records k)
     c.if-stands.false (omega (arith, c.if-view-statement.true, V.size, V.used_is)))
 
 pub returns : goal.returns
@@ -52,5 +54,6 @@ returns c =
     λ l Σ d q g i.
     let V = c.view_of-view.ensures in
     let k = reads_view _ V g in
-    sym (say_enough l Σ d c.args.register.now c.args.day (stated c.args.statement) q (sym (c.first_miss.ensures d.records q k i) ∙ ap answer c.in_ok-first_miss.was) _ (c.stands.ensures d.records k)
+    sym (say_enough l Σ d c.args.register.now c.args.day (stated c.args.statement) q
+    (sym (c.first_miss.ensures d.records q k i) ∙ ap answer c.in_ok-first_miss.was) _ (c.stands.ensures d.records k)
     c.if-stands.false (records_there c.args.register.now d g).within (omega (arith, c.if-view-statement.false, V.size, V.used_is)))

@@ -47,7 +47,8 @@ returns-then-not-in_time c =
     let so : PassedSo l a.register.now c.prepare.new.table c.prepare.result (say_own a.day st) c.prepare.ensures c.in_ok-count.count =
     passed_so _ _ _ _ _ c.prepare.ensures _ (ap answer c.in_ok-count.was) in
     ap (λ x. refusal x) c.at-then-not-in_time.ensures
-    ∙ sym (say_late l a.register.now _ a.day st _ _ _ so _ (c.good_statement.ensures a.statement.words.now) c.if-not-good_statement.false _ c.in_time.ensures c.if-not-in_time.true)
+    ∙ sym (say_late l a.register.now _ a.day st _ _ _ so _ (c.good_statement.ensures a.statement.words.now)
+    c.if-not-good_statement.false _ c.in_time.ensures c.if-not-in_time.true)
 
 pub returns-then-statement-eq-DESK : goal.returns-then-statement-eq-DESK
 returns-then-statement-eq-DESK c =
@@ -57,7 +58,8 @@ returns-then-statement-eq-DESK c =
     let so : PassedSo l a.register.now c.prepare.new.table c.prepare.result (say_own a.day st) c.prepare.ensures c.in_ok-count.count =
     passed_so _ _ _ _ _ c.prepare.ensures _ (ap answer c.in_ok-count.was) in
     ap (λ x. refusal x) c.at-then-statement-eq-DESK.ensures
-    ∙ sym (say_by_desk l a.register.now _ a.day st _ _ _ so _ (c.good_statement.ensures a.statement.words.now) c.if-not-good_statement.false _ c.in_time.ensures c.if-not-in_time.false
+    ∙ sym (say_by_desk l a.register.now _ a.day st _ _ _ so _ (c.good_statement.ensures a.statement.words.now)
+    c.if-not-good_statement.false _ c.in_time.ensures c.if-not-in_time.false
     c.if-statement-eq-DESK.true)
 
 pub slice_bounds-table-end : goal.slice_bounds-table-end
@@ -101,7 +103,8 @@ returns-in_err-check_statement c =
     let so : PassedSo l a.register.now c.prepare.new.table c.prepare.result (say_own a.day st) c.prepare.ensures c.in_ok-count.count =
     passed_so _ _ _ _ _ c.prepare.ensures _ (ap answer c.in_ok-count.was) in
     stop _ (handed_on _ _ c.from_residual-in_err-check_statement.ensures)
-    ∙ sym (say_not_stated l a.register.now _ a.day st _ _ _ so _ (c.good_statement.ensures a.statement.words.now) c.if-not-good_statement.false _ c.in_time.ensures c.if-not-in_time.false
+    ∙ sym (say_not_stated l a.register.now _ a.day st _ _ _ so _ (c.good_statement.ensures a.statement.words.now)
+    c.if-not-good_statement.false _ c.in_time.ensures c.if-not-in_time.false
     c.if-statement-eq-DESK.false (sym (c.check_statement.ensures so.Σ a.statement.principal so.constants) ∙ ap answer c.in_err-check_statement.was))
 
 pub addable-requires : goal.addable-requires
@@ -125,5 +128,6 @@ returns c =
     let T = statement_so so.Σ so.constants.signature st
     (sym (c.check_statement.ensures so.Σ a.statement.principal so.constants) ∙ ap answer c.in_ok-check_statement.was) in
     c.addable.ensures l so.Σ so.content T.term so.reads T.term_is
-    ∙ sym (say_stated l a.register.now _ a.day st _ _ _ so _ (c.good_statement.ensures a.statement.words.now) c.if-not-good_statement.false _ c.in_time.ensures c.if-not-in_time.false
+    ∙ sym (say_stated l a.register.now _ a.day st _ _ _ so _ (c.good_statement.ensures a.statement.words.now)
+    c.if-not-good_statement.false _ c.in_time.ensures c.if-not-in_time.false
     c.if-statement-eq-DESK.false T)
