@@ -1,4 +1,4 @@
--- The join in one pass, a home at a time.
+-- The join in one pass, a turn at a time.
 use Prim.Native.Nat.{ℕ, suc, ◌+◌, ◌*◌, ◌-◌, ◌≤◌, ◌<◌}
 use native.Mathlib.Omega.{arith}
 use mathlib.Core.Path.{◌≡◌, refl, sym, ap, ◌∙◌}
@@ -14,7 +14,7 @@ use Rattle.homes.proofs.Joins.{beyond, here, walked, formed_facts, walked_joined
 
 -- ---- the first row of those that are left
 
-pub row_over : (h : ℕ) (ws : List ℕ) → 2 ≤ length ws → get_or ws 0 0 < h → beyond h (take (length ws - 2) (drop 2 ws)) ≡ beyond h ws
+row_over : (h : ℕ) (ws : List ℕ) → 2 ≤ length ws → get_or ws 0 0 < h → beyond h (take (length ws - 2) (drop 2 ws)) ≡ beyond h ws
 unfolding beyond
 row_over h [] l s = absurd (omega arith)
 row_over h (x ∷ []) l s = absurd (omega arith)
@@ -41,20 +41,28 @@ here_none h [] n = refl
 here_none h (x ∷ []) n = refl
 here_none h (x ∷ c ∷ ws) n = ap (λ (b : Bool). cond b c no_survey) (ne_eqb x h (n (omega arith)))
 
--- ---- a home is written
+-- ---- a turn, whose home is x
 
-module _ (hs left stood out : List ℕ) (k c : ℕ) where
-  pub home_written : k < length hs → 2 * k + 1 < length out → beyond (get_or hs k 0) left ≡ stood → here (get_or hs k 0) stood ≡ c →
-      written_at (set (set out (2 * k) (get_or hs k 0)) (2 * k + 1) c) (2 * (k + 1)) (walked (drop (k + 1) hs) stood)
-      ≡ written_at out (2 * k) (walked (drop k hs) left)
+module _ (hs left out : List ℕ) (k x : ℕ) (inside : k < length hs) (home : x ≡ get_or hs k 0) where
+  walk_from : (ws : List ℕ) → walked (drop k hs) ws ≡ x ∷ here x (beyond x ws) ∷ walked (drop (k + 1) hs) (beyond x ws)
   unfolding walked
-  home_written h l e q =
-      let x : ℕ = get_or hs k 0 in
+  walk_from ws = ap (λ (m : List ℕ). walked m ws) (drop_one hs k inside ∙ ap (λ (h : ℕ). h ∷ drop (k + 1) hs) (sym home))
+
+  pub row_passed : 2 ≤ length left → get_or left 0 0 < x →
+      written_at out (2 * k) (walked (drop k hs) (take (length left - 2) (drop 2 left))) ≡ written_at out (2 * k) (walked (drop k hs) left)
+  row_passed l s =
+      ap (written_at out (2 * k))
+      (walk_from (take (length left - 2) (drop 2 left))
+      ∙ ap (λ (m : List ℕ). x ∷ here x m ∷ walked (drop (k + 1) hs) m) (row_over x left l s) ∙ sym (walk_from left))
+
+  pub home_written : (c : ℕ) → 2 * k + 1 < length out → beyond x left ≡ left → here x left ≡ c →
+      written_at (set (set out (2 * k) x) (2 * k + 1) c) (2 * (k + 1)) (walked (drop (k + 1) hs) left)
+      ≡ written_at out (2 * k) (walked (drop k hs) left)
+  home_written c l e q =
       let a : 2 * (k + 1) ≡ 2 * k + 1 + 1 = omega arith in
-      let w : List ℕ = walked (drop (k + 1) hs) stood in
+      let w : List ℕ = walked (drop (k + 1) hs) left in
       let s : walked (drop k hs) left ≡ x ∷ c ∷ w =
-      ap (λ (m : List ℕ). walked m left) (drop_one hs k h)
-      ∙ ap (λ (m : List ℕ). x ∷ here x m ∷ walked (drop (k + 1) hs) m) e ∙ ap (λ (d : ℕ). x ∷ d ∷ w) q in
+      walk_from left ∙ ap (λ (m : List ℕ). x ∷ here x m ∷ walked (drop (k + 1) hs) m) e ∙ ap (λ (d : ℕ). x ∷ d ∷ w) q in
       written_cons out _ (2 * k) x (c ∷ w) (omega arith)
       (written_cons (set out (2 * k) x) _ (2 * k + 1) c w (omega (arith, length-set out (2 * k) x))
       (ap (λ (i : ℕ). written_at (set (set out (2 * k) x) (2 * k + 1) c) i w) a))

@@ -43,23 +43,25 @@ pub fn well_formed(homes: &[u32], surveys: &[u32], room: usize) -> bool
     homes_rise(homes) && rows_rise(surveys)
 }
 
-// Writes each home with its code, in one pass over list and table.
+// Writes each home with its code, in one pass over list and table: a turn passes over a row or writes a home.
 pub fn join(homes: &[u32], surveys: &[u32], out: &mut [u32])
     requires { formed homes.now surveys.now (length out.old) ≡ true }
     ensures { out.new ≡ written_at out.old 0 (joined homes.now surveys.now) }
 {
     let mut left = surveys;
-    for (k, &home) in homes.iter().enumerate() {
-        // The rows of lower homes are passed over.
-        let code = loop {
-            match left {
-                [row, _, rest @ ..] if *row < home => left = rest,
-                [row, code, ..] if *row == home => break *code,
-                _ => break NO_SURVEY,
+    let mut k = 0;
+    while let Some(&home) = homes.get(k) {
+        let code = match left {
+            [row, _, rest @ ..] if *row < home => {
+                left = rest;
+                continue;
             }
+            [row, code, ..] if *row == home => *code,
+            _ => NO_SURVEY,
         };
         out[2 * k] = home;
         out[2 * k + 1] = code;
+        k += 1;
     }
 }
 

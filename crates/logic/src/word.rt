@@ -108,16 +108,24 @@ pub fn payload_of(word: u32) -> u32
 pub fn class_of(word: u32) -> Class
     ensures { result ≡ shape_class (word_shape word) }
 {
-    match tag_of(word) {
-        TAG_CONSTANT | TAG_TEXT | TAG_NAME => Class::Atom,
-        TAG_VARIABLE => Class::Variable,
-        TAG_SIGN => Class::Sign,
-        // any other word has no payload
-        _ if payload_of(word) != 0 => Class::NoTerm,
-        TAG_PROP | TAG_TYPE | TAG_STRING | TAG_PRIN => Class::Atom,
-        TAG_SAYS | TAG_APP | TAG_RET => Class::Node,
-        TAG_PI | TAG_LAM | TAG_BIND => Class::Binder,
-        _ => Class::NoTerm,
+    // by a table of bare words and one of words with a payload
+    if payload_of(word) == 0 {
+        match tag_of(word) {
+            TAG_PROP | TAG_TYPE | TAG_STRING | TAG_PRIN => Class::Atom,
+            TAG_VARIABLE => Class::Variable,
+            TAG_CONSTANT | TAG_TEXT | TAG_NAME => Class::Atom,
+            TAG_SAYS | TAG_APP | TAG_RET => Class::Node,
+            TAG_PI | TAG_LAM | TAG_BIND => Class::Binder,
+            TAG_SIGN => Class::Sign,
+            _ => Class::NoTerm,
+        }
+    } else {
+        match tag_of(word) {
+            TAG_VARIABLE => Class::Variable,
+            TAG_CONSTANT | TAG_TEXT | TAG_NAME => Class::Atom,
+            TAG_SIGN => Class::Sign,
+            _ => Class::NoTerm,
+        }
     }
 }
 

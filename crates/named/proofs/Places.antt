@@ -1,5 +1,5 @@
 -- Where a term of an edition stands in a list of words: its first word, its class and its children's places.
-use Prim.Native.Nat.{ℕ, zero, suc, ◌+◌, ◌<◌}
+use Prim.Native.Nat.{ℕ, zero, suc, ◌+◌, ◌<◌, ◌≤◌}
 use mathlib.Core.Path.{◌≡◌, refl, sym, ap, ◌∙◌}
 use mathlib.Core.Bool.{Bool, true, false, cond}
 use mathlib.Core.List.{List, [], ◌∷◌, ◌++◌, map, map-append, append_assoc}
@@ -15,13 +15,13 @@ use Rattle.logic.specs.declared.word.Class.{Class}
 use Rattle.logic.specs.declared.word.Class.TheVariants.{Node, Binder}
 use Rattle.logic.proofs.Shapes.{term_class}
 use Rattle.words.specs.Place.{At}
-use Rattle.words.proofs.Places.{cons_head, cons_tail, class_at, at_within}
+use Rattle.words.proofs.Places.{cons_head, cons_tail, class_at, at_end, at_within}
 use Rattle.editions.specs.Named.{Label, Named, var', sign', node', label, labelled, encode', size', erased}
 use Rattle.editions.specs.Edition.{PlainLabel, Plain', tag_word, unnamed}
 use Rattle.named.specs.Answers.{is_binder, EditionAt}
 use Rattle.editions.specs.declared.Edition.{Edition}
 use Rattle.editions.specs.declared.Edition.TheVariants.{Counts, Names}
-use Rattle.editions.proofs.Words.{encode_size', erased_plain, unnamed_words, clear_node}
+use Rattle.editions.proofs.Words.{encode_size', erased_size, erased_plain, unnamed_words, clear_node}
 
 drop_map : (f : ℕ → ℕ) (n : ℕ) (xs : List ℕ) → drop n (map f xs) ≡ map f (drop n xs)
 drop_map f zero [] = refl
@@ -47,6 +47,9 @@ getD_unnamed Names ws i = get_or-map (unnamed Names) ws i 0
 pub edition_class : {e : Edition} {ws : List ℕ} {at u : ℕ} {k : Class} {s : Named} → u ≡ unnamed e (get_or ws at 0) → k ≡ shape_class (word_shape u) →
     EditionAt e ws at s → term_class (erased s) ≡ k
 edition_class {e} {ws} {at} b f h = class_at (f ∙ ap (λ w. shape_class (word_shape w)) (b ∙ sym (getD_unnamed e ws at))) (unnamed_at h)
+
+pub edition_end : {e : Edition} {ws : List ℕ} {at : ℕ} {s : Named} → EditionAt e ws at s → at + size' s ≤ length ws
+edition_end {e} {ws} {at} {s} h = omega (arith, at_end (unnamed_at h), erased_size s, length-map ws (unnamed e))
 
 pub edition_within : {e : Edition} {ws : List ℕ} {at : ℕ} {s : Named} → EditionAt e ws at s → at < length ws
 edition_within {e} {ws} h = omega (arith, at_within (unnamed_at h), length-map ws (unnamed e))

@@ -19,12 +19,12 @@ fn convert_term(
     edition: Edition,
     words: &[u32],
     at: usize,
-    scope: Scope,
+    scope: &Scope,
     out: &mut [u32],
 ) -> Result<usize, Refusal>
-    requires { Convertible edition words.now at (in_scope scope) out.old }
+    requires { Convertible edition words.now at (in_scope scope.now) out.old }
     ensures { (s : Named) → EditionAt edition words.now at s
-        → WroteTerm (convert-term edition (in_scope scope) at s) at (at + size' s) out.old out.new (answer result) }
+        → WroteTerm (convert-term edition (in_scope scope.now) at s) at (at + size' s) out.old out.new (answer result) }
 {
     let word = words[at];
     let class = class_of(unnamed(edition, word));
@@ -38,17 +38,12 @@ fn convert_term(
     out[at] = scope.relabelled(edition, class, word);
     match class {
         // "A Sign's proposition starts with no names"
-        Class::Sign => convert_term(edition, words, at + 1, Scope::new(), out),
+        Class::Sign => convert_term(edition, words, at + 1, &Scope::new(), out),
         // a domain, and the proof of a Bind, are not in the body
         Class::Node | Class::Binder => {
+            let inner = scope.entered(edition, class, word);
             let next = convert_term(edition, words, at + 1, scope, out)?;
-            convert_term(
-                edition,
-                words,
-                next,
-                scope.entered(edition, class, word),
-                out,
-            )
+            convert_term(edition, words, next, &inner, out)
         }
         _ => Ok(at + 1),
     }
@@ -66,7 +61,7 @@ fn convert(edition: Edition, term: &[u32], output: &mut [u32]) -> Result<usize, 
     let mut work = [0; MOST_WORDS];
     unnamed_words(edition, term, &mut work);
     term_test(&work[..len], MOST_WORDS, MOST_NESTING)?;
-    convert_term(edition, term, 0, Scope::new(), &mut work)?;
+    convert_term(edition, term, 0, &Scope::new(), &mut work)?;
     if output.len() < len {
         return Err(Reason::OutputShort.at(0));
     }

@@ -10,8 +10,8 @@ use logic::word::{Class, PAYLOADS, payload_of, tag_of};
 // A fixed array: project rule (fixed memory, no heap).
 #[derive(Clone, Copy)]
 pub struct Scope {
-    names: [u32; MOST_NESTING],
-    start: usize,
+    pub names: [u32; MOST_NESTING],
+    pub start: usize,
     ghost within: { start ≤ most_nesting },
 }
 

@@ -58,7 +58,7 @@ unfoldable pub Small : List ℕ → Type 0
 Small [] = Unit {0}
 Small (n ∷ ns) = (n ≤ largest) × Small ns
 
--- the byte behind the last number, and `other` where there is None
+-- the byte behind the last number, and `other` where there is none
 unfoldable pub last_end : (this other : ℕ) → List ℕ → ℕ
 last_end this other [] = other
 last_end this other (n ∷ ns) = last_end other this ns

@@ -10,6 +10,7 @@ ghost use Rattle.simplify.specs.Answers.{Reducible, SimplifiedAs};
 
 use logic::limit::MOST_NESTING;
 use logic::refusal::{Reason, Refusal};
+use parts::copy_all;
 use std::mem::swap;
 use steps::redex::first_step;
 use steps::step::step_into;
@@ -73,7 +74,7 @@ pub fn reduce(
     if output.len() < n {
         return Err(Reason::OutputShort.at(0));
     }
-    output[..n].copy_from_slice(&from[..n]);
+    copy_all(&from[..n], &mut output[..n]);
     Ok(Simplified {
         steps: budget - left,
         words: n,

@@ -1,6 +1,10 @@
 // A call of the register and its line: what the example is, the call, and what it gives.
 #![tactic(auto)]
 
+ghost use Rattle.std.specs.Prelude.{◌≡◌};
+ghost use Rattle.register.specs.Records.{ask_of};
+ghost use Rattle.records.specs.Entries.{asked};
+
 use batch_tests::ItemRefusal;
 use logic::limit::LEAST_WORKSPACE;
 use logic::refusal::Refusal;
@@ -68,7 +72,10 @@ fn answer_line(
 }
 
 // A signature list with the sample's operations, as calls here are lent it.
-pub fn signed(list: &[u32]) -> Signature<'_> {
+pub fn signed(list: &[u32]) -> Signature<'_>
+    ensures list { result.list.now ≡ list.now }
+    ensures operations { result.operations ≡ 1 }
+{
     Signature {
         list,
         operations: OPERATIONS,
@@ -194,7 +201,9 @@ pub fn say_line(
 }
 
 // What the sample asks on a day: operation 0, extract 7 and delivery 9, with a proof.
-pub fn sample_ask(day: u32, proof: &[u32]) -> Ask<'_> {
+pub fn sample_ask(day: u32, proof: &[u32]) -> Ask<'_>
+    ensures { asked result ≡ ask_of 0 7 9 day proof.now }
+{
     Ask {
         operation: 0,
         extract: 7,

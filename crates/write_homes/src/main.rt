@@ -3,9 +3,9 @@
 
 pub mod print;
 
-ghost use Rattle.std.specs.Prelude.{◌≤◌, length};
+ghost use Rattle.std.specs.Prelude.{◌≤◌, length, IfSome};
 
-use print::{MOST_LIST, MOST_TABLE, ROOM, print};
+use print::{ROOM, list_bytes, print, table_bytes};
 use std::fs::File;
 use std::io::Read;
 
@@ -27,7 +27,9 @@ fn fill(file: &mut File, buffer: &mut [u8]) -> usize
 // A file's bytes, as many as the buffer holds. A file that is read to its end gives 0 at one read more. One that does
 // not, because it is longer or because a read failed, is taken as one that is not there: what was read of it is no
 // shorter file.
-fn load<'a>(rt: &HostRuntime, path: &str, buffer: &'a mut [u8]) -> Option<&'a [u8]> {
+fn load<'a>(rt: &HostRuntime, path: &str, buffer: &'a mut [u8]) -> Option<&'a [u8]>
+    ensures { IfSome result (λ bytes. length bytes.now ≤ length buffer.old) }
+{
     let mut file = File::open(rt, path).ok()?;
     let bytes = fill(&mut file, buffer);
     match file.read(&mut [0]) {
@@ -37,9 +39,8 @@ fn load<'a>(rt: &HostRuntime, path: &str, buffer: &'a mut [u8]) -> Option<&'a [u
 }
 
 fn main(rt: HostRuntime) {
-    // One byte more than the longest files in form have.
-    let mut list = [0; MOST_LIST + 1];
-    let mut table = [0; MOST_TABLE + 1];
+    let mut list = list_bytes();
+    let mut table = table_bytes();
     let homes = load(&rt, "homes", &mut list);
     let surveys = load(&rt, "surveys", &mut table);
     let mut out = [0; ROOM];

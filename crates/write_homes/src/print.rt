@@ -1,17 +1,17 @@
 // What is printed: the writing step on two files' bytes.
-ghost use Rattle.std.specs.Prelude.{◌*◌, ◌≤◌, ◌≡◌, length};
+ghost use Rattle.std.specs.Prelude.{◌+◌, ◌*◌, ◌≤◌, ◌≡◌, length};
 ghost use Rattle.decimal.specs.Decimal.{Put};
 ghost use Rattle.homes.specs.Homes.{most_homes};
-ghost use Rattle.write_homes.specs.Printed.{output_room, given, written_homes, Stepped, printed};
+ghost use Rattle.write_homes.specs.Printed.{most_list, most_table, output_room, given, written_homes, Stepped, printed};
 
 use decimal::{NUMBER_BYTES, put};
 use homes::{MOST_HOMES, MOST_ROWS, write};
 use number_file::{put_fields, read};
 
 // The longest files in form: a first line, and the numbers with a byte behind each.
-pub const MOST_LIST: usize = 5 + NUMBER_BYTES * MOST_HOMES;
+const MOST_LIST: usize = 5 + NUMBER_BYTES * MOST_HOMES;
 
-pub const MOST_TABLE: usize = 10 + NUMBER_BYTES * (2 * MOST_ROWS);
+const MOST_TABLE: usize = 10 + NUMBER_BYTES * (2 * MOST_ROWS);
 
 // The numbers that they can hold, if each takes two bytes only.
 const LIST_NUMBERS: usize = MOST_LIST / 2 + 1;
@@ -23,6 +23,19 @@ const OUTPUT_WORDS: usize = 2 * MOST_HOMES;
 // Room for the longest output.
 pub const ROOM: usize = 10 + NUMBER_BYTES * OUTPUT_WORDS;
 
+// One byte more than the longest files in form have, so that a longer one is seen.
+pub fn list_bytes() -> [u8; MOST_LIST + 1]
+    ensures { most_list + 1 ≡ length result }
+{
+    [0; MOST_LIST + 1]
+}
+
+pub fn table_bytes() -> [u8; MOST_TABLE + 1]
+    ensures { most_table + 1 ≡ length result }
+{
+    [0; MOST_TABLE + 1]
+}
+
 // The writing step on the two files' bytes, if they are there and in form: how many words it wrote.
 fn step(list: Option<&[u8]>, table: Option<&[u8]>, words: &mut [u32]) -> Option<usize>
     requires { 2 * most_homes ≡ length words.old }
@@ -33,8 +46,8 @@ fn step(list: Option<&[u8]>, table: Option<&[u8]>, words: &mut [u32]) -> Option<
         return None;
     }
     let mut homes = [0; LIST_NUMBERS];
-    let mut surveys = [0; TABLE_NUMBERS];
     let n = read(list, b"home\n", b'\n', &mut homes)?;
+    let mut surveys = [0; TABLE_NUMBERS];
     let m = read(table, b"home,code\n", b',', &mut surveys)?;
     write(&homes[..n], &surveys[..m], words).ok()?;
     Some(2 * n)

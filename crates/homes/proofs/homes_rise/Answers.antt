@@ -1,3 +1,4 @@
+-- `homes_rise` asks the library whether the list is sorted by `<`, which is that the homes rise.
 use Rattle.std.proofs.Common.{rules}
 use borrow.Author.Tests.{tests}
 use lib.Dec.{ltb}

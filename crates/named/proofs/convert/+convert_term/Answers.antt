@@ -43,13 +43,13 @@ returns-in_err-meant t c =
     let h = missing c.meaning.result c.at.result _ (sym c.ok_or.ensures.value ∙ c.in_err-meant.was) in
     let k : c.class_of-class.result ≡ Variable = search rules in
     var_unbound _ _ _ _ _ _ _ c.unnamed.ensures c.class_of-class.ensures _ k
-    (ap meant (sym h.0) ∙ c.meaning.ensures ∙ ap (λ x. meaning c.args.edition x (in_scope c.args.scope)) c.payload_of.ensures)
+    (ap meant (sym h.0) ∙ c.meaning.ensures ∙ ap (λ x. meaning c.args.edition x (in_scope c.args.scope.now)) c.payload_of.ensures)
     (handed_on _ _ c.from_residual.ensures ∙ ap refusal (sym h.1 ∙ c.at.ensures))
 
 pub overflow_add-out : goal.overflow_add-out
 overflow_add-out t c =
     let h = there c.meaning.result c.at.result _ (sym c.ok_or.ensures.value ∙ c.in_ok-meant.was) in
-    let l = meaning_below c.args.edition (in_scope c.args.scope) _ _ c.requires.scoped (sym c.meaning.ensures ∙ ap meant h) in
+    let l = meaning_below c.args.edition (in_scope c.args.scope.now) _ _ c.requires.scoped (sym c.meaning.ensures ∙ ap meant h) in
     let r = room c.requires in
     omega arith
 
@@ -59,7 +59,7 @@ returns-then-eq t c =
     let k : c.class_of-class.result ≡ Variable = search rules in
     let r = room c.requires in
     var_bound _ _ _ _ _ _ _ c.unnamed.ensures c.class_of-class.ensures _ k (omega arith)
-    (ap meant (sym h) ∙ c.meaning.ensures ∙ ap (λ x. meaning c.args.edition x (in_scope c.args.scope)) c.payload_of.ensures)
+    (ap meant (sym h) ∙ c.meaning.ensures ∙ ap (λ x. meaning c.args.edition x (in_scope c.args.scope.now)) c.payload_of.ensures)
 
 -- ---- another word
 
@@ -111,8 +111,8 @@ returns-in_err-next-in-Node t c =
     first_refused _ _ _ _ _ _ _ c.unnamed.ensures c.class_of-class.ensures _ c.relabelled.ensures (omega arith) c.in-Node.is _ _
     c.convert_term-in-Node.ensures _ _ _ (ap answer c.in_err-next-in-Node.was) (handed_on _ _ c.from_residual-in_err-next-in-Node.ensures)
 
-pub entered-requires : goal.entered-requires
-entered-requires t c = let r = room c.requires in r.few
+pub entered-inner-requires : goal.entered-inner-requires
+entered-inner-requires t c = let r = room c.requires in r.few
 
 pub convert_term-requires-in-Node-2 : goal.convert_term-requires-in-Node-2
 convert_term-requires-in-Node-2 t c =
@@ -127,11 +127,11 @@ convert_term-requires-in-Node-2 t c =
     let w = edition_within n.second_here in (
       omega arith,
       record {
-        scoped = entered_scope _ _ _ _ _ p.scoped c.entered.ensures;
+        scoped = entered_scope _ _ _ _ _ p.scoped c.entered-inner.ensures;
         s = n.second;
         here = subst (λ i. EditionAt c.args.edition c.args.words.now i n.second) (sym e) n.second_here;
         room = omega arith;
-        deep = n.second_deep _ c.entered.ensures;
+        deep = n.second_deep _ c.entered-inner.ensures;
       },
     )
 
@@ -139,4 +139,4 @@ pub returns-in_ok-next-in-Node : goal.returns-in_ok-next-in-Node
 returns-in_ok-next-in-Node t c =
     let r = room c.requires in
     node_wrote _ _ _ _ _ _ _ c.unnamed.ensures c.class_of-class.ensures _ c.relabelled.ensures (omega arith) c.in-Node.is _ _
-    c.convert_term-in-Node.ensures _ _ _ _ (ap answer c.in_ok-next-in-Node.was) c.entered.ensures c.convert_term-in-Node-2.ensures
+    c.convert_term-in-Node.ensures _ _ _ _ (ap answer c.in_ok-next-in-Node.was) c.entered-inner.ensures c.convert_term-in-Node-2.ensures

@@ -56,4 +56,4 @@ returns c =
     let k = c.take_step.ensures T.subject.term T.subject.here in
     λ t h. result_written _ c.args.output.now T.subject.term
     (last_turn T k (ap answer c.in_ok-words.was ∙ ap ok c.in_default.is) (length c.args.output.now) t h) _
-    (subst (λ l. At l 0 T.subject.term) (take-length c.loop-words.from.now) T.subject.here) T.subject.count (omega arith) c.copy_from_slice.ensures.after
+    (subst (λ l. At l 0 T.subject.term) (take-length c.loop-words.from.now) T.subject.here) T.subject.count (omega arith) c.copy_all.ensures
