@@ -14,7 +14,7 @@ use Rattle.homes.proofs.Joins.{beyond, here, walked, formed_facts, walked_joined
 
 -- ---- the first row of those that are left
 
-row_over : (h : ℕ) (ws : List ℕ) → 2 ≤ length ws → get_or ws 0 0 < h → beyond h (take (length ws - 2) (drop 2 ws)) ≡ beyond h ws
+pub row_over : (h : ℕ) (ws : List ℕ) → 2 ≤ length ws → get_or ws 0 0 < h → beyond h (take (length ws - 2) (drop 2 ws)) ≡ beyond h ws
 unfolding beyond
 row_over h [] l s = absurd (omega arith)
 row_over h (x ∷ []) l s = absurd (omega arith)
@@ -55,18 +55,32 @@ module _ (hs left out : List ℕ) (k x : ℕ) (inside : k < length hs) (home : x
       (walk_from (take (length left - 2) (drop 2 left))
       ∙ ap (λ (m : List ℕ). x ∷ here x m ∷ walked (drop (k + 1) hs) m) (row_over x left l s) ∙ sym (walk_from left))
 
-  pub home_written : (c : ℕ) → 2 * k + 1 < length out → beyond x left ≡ left → here x left ≡ c →
-      written_at (set (set out (2 * k) x) (2 * k + 1) c) (2 * (k + 1)) (walked (drop (k + 1) hs) left)
+  -- the home is written, from the rows that stand behind those of lower homes
+  written_of : (stood : List ℕ) (c : ℕ) → 2 * k + 1 < length out → beyond x left ≡ stood → here x stood ≡ c →
+      written_at (set (set out (2 * k) x) (2 * k + 1) c) (2 * (k + 1)) (walked (drop (k + 1) hs) stood)
       ≡ written_at out (2 * k) (walked (drop k hs) left)
-  home_written c l e q =
+  written_of stood c l e q =
       let a : 2 * (k + 1) ≡ 2 * k + 1 + 1 = omega arith in
-      let w : List ℕ = walked (drop (k + 1) hs) left in
+      let w : List ℕ = walked (drop (k + 1) hs) stood in
       let s : walked (drop k hs) left ≡ x ∷ c ∷ w =
       walk_from left ∙ ap (λ (m : List ℕ). x ∷ here x m ∷ walked (drop (k + 1) hs) m) e ∙ ap (λ (d : ℕ). x ∷ d ∷ w) q in
       written_cons out _ (2 * k) x (c ∷ w) (omega arith)
       (written_cons (set out (2 * k) x) _ (2 * k + 1) c w (omega (arith, length-set out (2 * k) x))
       (ap (λ (i : ℕ). written_at (set (set out (2 * k) x) (2 * k + 1) c) i w) a))
       ∙ ap (written_at out (2 * k)) (sym s)
+
+  -- no row that is left is of a lower home
+  pub home_taken : (c : ℕ) → 2 * k + 1 < length out → beyond x left ≡ left → here x left ≡ c →
+      written_at (set (set out (2 * k) x) (2 * k + 1) c) (2 * (k + 1)) (walked (drop (k + 1) hs) left)
+      ≡ written_at out (2 * k) (walked (drop k hs) left)
+  home_taken = written_of left
+
+-- a home is written, however many rows of lower homes are left before it
+module _ (hs left stood out : List ℕ) (k c : ℕ) where
+  pub home_written : k < length hs → 2 * k + 1 < length out → beyond (get_or hs k 0) left ≡ stood → here (get_or hs k 0) stood ≡ c →
+      written_at (set (set out (2 * k) (get_or hs k 0)) (2 * k + 1) c) (2 * (k + 1)) (walked (drop (k + 1) hs) stood)
+      ≡ written_at out (2 * k) (walked (drop k hs) left)
+  home_written h = written_of hs left out k (get_or hs k 0) h refl stood c
 
 -- all homes are written
 pub homes_written : (hs t left old out : List ℕ) (k : ℕ) → length hs ≤ k → formed hs t (length old) ≡ true →

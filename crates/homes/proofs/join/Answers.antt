@@ -4,7 +4,7 @@ use native.Mathlib.Omega.{arith}
 use mathlib.Core.Path.{◌≡◌, sym, ◌∙◌}
 use lib.ListN.{length-set}
 use Rattle.homes.proofs.Joins.{beyond, here, formed_facts}
-use Rattle.homes.proofs.Walks.{row_passed, row_stays, here_own, here_none, home_written, homes_written}
+use Rattle.homes.proofs.Walks.{row_passed, row_stays, here_own, here_none, home_taken, homes_written}
 use Rattle.homes.proofs.join.Goals as goal
 use Rattle.homes.proofs.join.Goals.{in-len2-up-2, in_default-left, in_default-left-2}
 
@@ -34,7 +34,7 @@ loop-home-preserved c =
     ] in
     record {
       size = simp length-set i.size;
-      rest = home_written c.args.homes.now _ _ _ _ h.0 (h.1 0) _ (omega (arith, h.0)) first.0 first.1 ∙ i.rest;
+      rest = home_taken c.args.homes.now _ _ _ _ h.0 (h.1 0) _ (omega (arith, h.0)) first.0 first.1 ∙ i.rest;
     }
 
 pub returns : goal.returns
