@@ -41,7 +41,26 @@ here_none h [] n = refl
 here_none h (x ∷ []) n = refl
 here_none h (x ∷ c ∷ ws) n = ap (λ (b : Bool). cond b c no_survey) (ne_eqb x h (n (omega arith)))
 
--- ---- a turn, whose home is x
+-- ---- a home is written, however many rows of lower homes are left before it
+
+module _ (hs left stood out : List ℕ) (k c : ℕ) where
+  pub home_written : k < length hs → 2 * k + 1 < length out → beyond (get_or hs k 0) left ≡ stood → here (get_or hs k 0) stood ≡ c →
+      written_at (set (set out (2 * k) (get_or hs k 0)) (2 * k + 1) c) (2 * (k + 1)) (walked (drop (k + 1) hs) stood)
+      ≡ written_at out (2 * k) (walked (drop k hs) left)
+  unfolding walked
+  home_written h l e q =
+      let x : ℕ = get_or hs k 0 in
+      let a : 2 * (k + 1) ≡ 2 * k + 1 + 1 = omega arith in
+      let w : List ℕ = walked (drop (k + 1) hs) stood in
+      let s : walked (drop k hs) left ≡ x ∷ c ∷ w =
+      ap (λ (m : List ℕ). walked m left) (drop_one hs k h)
+      ∙ ap (λ (m : List ℕ). x ∷ here x m ∷ walked (drop (k + 1) hs) m) e ∙ ap (λ (d : ℕ). x ∷ d ∷ w) q in
+      written_cons out _ (2 * k) x (c ∷ w) (omega arith)
+      (written_cons (set out (2 * k) x) _ (2 * k + 1) c w (omega (arith, length-set out (2 * k) x))
+      (ap (λ (i : ℕ). written_at (set (set out (2 * k) x) (2 * k + 1) c) i w) a))
+      ∙ ap (written_at out (2 * k)) (sym s)
+
+-- ---- a turn, whose home is x: a row is passed over, or the home is written, of which no lower row is left
 
 module _ (hs left out : List ℕ) (k x : ℕ) (inside : k < length hs) (home : x ≡ get_or hs k 0) where
   walk_from : (ws : List ℕ) → walked (drop k hs) ws ≡ x ∷ here x (beyond x ws) ∷ walked (drop (k + 1) hs) (beyond x ws)
@@ -55,32 +74,13 @@ module _ (hs left out : List ℕ) (k x : ℕ) (inside : k < length hs) (home : x
       (walk_from (take (length left - 2) (drop 2 left))
       ∙ ap (λ (m : List ℕ). x ∷ here x m ∷ walked (drop (k + 1) hs) m) (row_over x left l s) ∙ sym (walk_from left))
 
-  -- the home is written, from the rows that stand behind those of lower homes
-  written_of : (stood : List ℕ) (c : ℕ) → 2 * k + 1 < length out → beyond x left ≡ stood → here x stood ≡ c →
-      written_at (set (set out (2 * k) x) (2 * k + 1) c) (2 * (k + 1)) (walked (drop (k + 1) hs) stood)
-      ≡ written_at out (2 * k) (walked (drop k hs) left)
-  written_of stood c l e q =
-      let a : 2 * (k + 1) ≡ 2 * k + 1 + 1 = omega arith in
-      let w : List ℕ = walked (drop (k + 1) hs) stood in
-      let s : walked (drop k hs) left ≡ x ∷ c ∷ w =
-      walk_from left ∙ ap (λ (m : List ℕ). x ∷ here x m ∷ walked (drop (k + 1) hs) m) e ∙ ap (λ (d : ℕ). x ∷ d ∷ w) q in
-      written_cons out _ (2 * k) x (c ∷ w) (omega arith)
-      (written_cons (set out (2 * k) x) _ (2 * k + 1) c w (omega (arith, length-set out (2 * k) x))
-      (ap (λ (i : ℕ). written_at (set (set out (2 * k) x) (2 * k + 1) c) i w) a))
-      ∙ ap (written_at out (2 * k)) (sym s)
-
-  -- no row that is left is of a lower home
   pub home_taken : (c : ℕ) → 2 * k + 1 < length out → beyond x left ≡ left → here x left ≡ c →
       written_at (set (set out (2 * k) x) (2 * k + 1) c) (2 * (k + 1)) (walked (drop (k + 1) hs) left)
       ≡ written_at out (2 * k) (walked (drop k hs) left)
-  home_taken = written_of left
-
--- a home is written, however many rows of lower homes are left before it
-module _ (hs left stood out : List ℕ) (k c : ℕ) where
-  pub home_written : k < length hs → 2 * k + 1 < length out → beyond (get_or hs k 0) left ≡ stood → here (get_or hs k 0) stood ≡ c →
-      written_at (set (set out (2 * k) (get_or hs k 0)) (2 * k + 1) c) (2 * (k + 1)) (walked (drop (k + 1) hs) stood)
-      ≡ written_at out (2 * k) (walked (drop k hs) left)
-  home_written h = written_of hs left out k (get_or hs k 0) h refl stood c
+  home_taken c l e q =
+      ap (λ (h : ℕ). written_at (set (set out (2 * k) h) (2 * k + 1) c) (2 * (k + 1)) (walked (drop (k + 1) hs) left)) home
+      ∙ home_written hs left left out k c inside l
+      (ap (λ (h : ℕ). beyond h left) (sym home) ∙ e) (ap (λ (h : ℕ). here h left) (sym home) ∙ q)
 
 -- all homes are written
 pub homes_written : (hs t left old out : List ℕ) (k : ℕ) → length hs ≤ k → formed hs t (length old) ≡ true →
